@@ -1,0 +1,1 @@
+// No code: what every crate above says and cites (specs/, proofs/).

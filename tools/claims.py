@@ -1,0 +1,74 @@
+#!/usr/bin/env python3
+"""Holds every public function of every library crate to a claim: an `ensures` and no `requires`.
+
+    tools/claims.py CRATES_FOLDER
+
+Prints each offender with file and line, then a count; exits 1 where there is an offender or no public function at all.
+"""
+import pathlib
+import re
+import sys
+
+PUBLIC = re.compile(r'\bpub\s+(?:extern\s+"C"\s+)?fn\s+(\w+)')
+CLAUSE = re.compile(r"\b(requires|ensures|ghost|decreases)\b(?:\s+\w+)?\s*\{")
+
+
+def without_comments(text):
+    """The text with each comment blanked out, so that places stay."""
+    return re.sub(r"//[^\n]*", lambda comment: " " * len(comment.group()), text)
+
+
+def closing_brace(text, at):
+    """The place after the brace that closes the one at `at`."""
+    depth = 0
+    for place in range(at, len(text)):
+        if text[place] == "{":
+            depth += 1
+        elif text[place] == "}":
+            depth -= 1
+            if depth == 0:
+                return place + 1
+    return len(text)
+
+
+def clauses(text, at):
+    """The kinds of the clauses between a function's name, which ends at `at`, and its body."""
+    kinds = []
+    while True:
+        brace = text.find("{", at)
+        clause = CLAUSE.search(text, at)
+        if clause is None or brace < 0 or clause.end() - 1 != brace:
+            return kinds
+        kinds.append(clause.group(1))
+        at = closing_brace(text, brace)
+
+
+def offences(crates):
+    """How many public functions the library crates have, and what is wrong with which."""
+    count, found = 0, []
+    for root in sorted(pathlib.Path(crates).glob("*/src/lib.rt")):
+        for file in sorted(root.parent.rglob("*.rt")):
+            text = without_comments(file.read_text(encoding="utf-8"))
+            for function in PUBLIC.finditer(text):
+                count += 1
+                kinds = clauses(text, function.end())
+                where = f"{file}:{text.count(chr(10), 0, function.start()) + 1}: {function.group(1)}"
+                if "ensures" not in kinds:
+                    found.append(f"{where} has no ensures")
+                if "requires" in kinds:
+                    found.append(f"{where} has a requires")
+    return count, found
+
+
+def main():
+    if len(sys.argv) != 2:
+        sys.exit(__doc__)
+    count, found = offences(sys.argv[1])
+    for offence in found:
+        print(offence)
+    print(f"claims: {count} public functions, {len(found)} without a full claim")
+    sys.exit(1 if found or count == 0 else 0)
+
+
+if __name__ == "__main__":
+    main()
