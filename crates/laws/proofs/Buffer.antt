@@ -26,7 +26,8 @@ lentFrom k buffer = take (length buffer - k) (drop k buffer)
 abbrev pub backFrom : ℕ → List ℕ → List ℕ → List ℕ
 backFrom k buffer part = take k buffer ++ (part ++ drop (length buffer - k) (drop k buffer))
 
-lent-is : (k : ℕ) (buffer : List ℕ) → lentFrom k buffer ≡ drop k buffer
+-- a part up to the end is all that stands from there on
+pub lent-is : (k : ℕ) (buffer : List ℕ) → lentFrom k buffer ≡ drop k buffer
 lent-is k buffer = take-all (length buffer - k) (drop k buffer) (omega (arith, length-drop k buffer))
 
 back-is : (k : ℕ) (buffer part : List ℕ) → backFrom k buffer part ≡ take k buffer ++ part
