@@ -1,3 +1,6 @@
 pub mod Buffer
 pub mod Cases
 pub mod Tests
+pub mod Repeat
+pub mod Tables
+pub mod Divide
