@@ -1,0 +1,57 @@
+-- Ticks in spin-up, and its end.
+use mathlib.Core.Path.{_≡_, refl, ap, _∙_}
+use mathlib.Core.Bool.{true, and-false, or-true, or-false}
+use Prim.Native.Nat.{ℕ, zero, suc, _+_, _/_, _≤_, _<_}
+use native.Mathlib.Omega.{arith}
+use native.Mathlib.Nat.{add-zero}
+use lib.Dec.{eqb}
+use borrow.Author.Tests.{lt-ltb, le-ltb}
+use Rattle.laws.specs.Repeat.{repeated}
+use Rattle.laws.proofs.Tests.{by-test}
+use Rattle.fan.specs.declared.Fan.{Fan}
+use Rattle.fan.specs.Registers.{targetHigh}
+use Rattle.fan.specs.Drive.{goal, underRamp}
+use Rattle.fan.specs.Spin.{spinLength, spinKick, spinNew, spinOn, spinDrive, inSpin, started, tooSlow, spinFailed, spinOver}
+use Rattle.fan.specs.Tick.{ticked}
+use Rattle.fan.specs.Promises.{SpinTicks, SpinDrives, LastDirect, LastClosed, driveAfter}
+use Rattle.fan.proofs.Steps.{ticks-spin, spins-on, spins-out}
+
+pub spin-ticks : SpinTicks
+unfolding repeated
+spin-ticks zero s f run h = rw (add-zero (s .ticks))
+spin-ticks (suc n) s f run h =
+    ap ticked (spin-ticks n s f run (omega arith))
+    ∙ ticks-spin (inSpin (spinOn n s) f) run
+    ∙ spins-on (inSpin (spinOn n s) f) (omega arith)
+    ∙ ap (λ (k : ℕ). inSpin (record { running = s .running; ticks = k; length = s .length; kick = s .kick; level = s .level }) f)
+    (let e : s .ticks + n + 1 ≡ s .ticks + suc n = omega arith in e)
+
+-- the drive of the spin-up that has just started, n ticks on
+drive-then : (n : ℕ) (f : Fan) → n < spinLength f → driveAfter (started f) n ≡ spinDrive (spinOn n (spinNew f))
+unfolding started
+drive-then n f h = ap (λ (g : Fan). g .drive) (spin-ticks n (spinNew f) f refl (omega arith))
+
+pub spin-drives : SpinDrives
+unfolding spinDrive
+spin-drives n f h = (
+  λ kick early. drive-then n f h ∙ rw (kick, lt-ltb (0 + n) (spinLength f / 4) (omega arith)),
+  λ late. drive-then n f h ∙ rw (le-ltb (0 + n) (spinLength f / 4) (omega arith), and-false (spinKick f)),
+  λ kick. drive-then n f h ∙ rw kick,
+)
+
+-- the last tick, or one past it
+last : (f : Fan) → f .spin .running ≡ true → f .spin .length ≤ f .spin .ticks + 1 → ticked f ≡ spinOver f
+last f run h = ticks-spin f run ∙ spins-out f h
+
+pub last-direct : LastDirect
+unfolding spinOver spinFailed tooSlow underRamp goal
+last-direct f run h direct =
+    last f run h
+    ∙ by-test (tooSlow f) (λ t. rw (t, direct, or-true (f .failed))) (λ t. rw (t, direct, or-false (f .failed)))
+
+pub last-closed : LastClosed
+unfolding spinOver spinFailed tooSlow underRamp goal started
+last-closed f run h closed = (
+  λ slow. last f run h ∙ rw (slow, closed),
+  λ fast. last f run h ∙ rw (fast, closed) (by-test (eqb (targetHigh f) 0xFF) (λ t. rw t) (λ t. rw t)),
+)

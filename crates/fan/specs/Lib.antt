@@ -1,0 +1,10 @@
+pub mod Tables
+pub mod State
+pub mod Registers
+pub mod Ramp
+pub mod Drive
+pub mod Spin
+pub mod Tick
+pub mod Stored
+pub mod Tach
+pub mod Promises

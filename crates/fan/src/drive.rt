@@ -1,0 +1,129 @@
+// Drive: goal, wish, ramp control, and the tick.
+use crate::CONFIGURATION_1;
+use crate::CONFIGURATION_2;
+use crate::Fan;
+use crate::MAX_STEP;
+use crate::MINIMUM_DRIVE;
+use crate::SETTING;
+use crate::TARGET_HIGH;
+use crate::tables;
+ghost use mathlib.Core.Path.{_≡_};
+ghost use Prim.Native.Nat.{max};
+ghost use Rattle.fan.specs.Ramp.{moved};
+ghost use Rattle.fan.specs.Drive.{driverOff, goal, underRamp, step, period, wished};
+ghost use Rattle.fan.specs.Tick.{counted, ticked};
+
+impl Fan {
+    // Closed loop with target high FFh.
+    pub fn driver_off(self) -> bool
+        ensures { λ r. ⌜ r ≡ driverOff self ⌝ }
+    {
+        if self.closed_loop() {
+            self.registers[TARGET_HIGH] == 0xFF
+        } else {
+            false
+        }
+    }
+
+    // The drive that the fan is to have.
+    pub fn goal(self) -> u8
+        ensures { λ r. ⌜ r ≡ goal self ⌝ }
+    {
+        if self.closed_loop() {
+            if self.driver_off() {
+                0
+            } else {
+                larger(self.wish, self.registers[MINIMUM_DRIVE])
+            }
+        } else {
+            self.registers[SETTING]
+        }
+    }
+
+    // Whether the drive goes to the goal by steps.
+    pub fn under_ramp(self) -> bool
+        ensures { λ r. ⌜ r ≡ underRamp self ⌝ }
+    {
+        if self.closed_loop() {
+            !self.driver_off()
+        } else {
+            self.registers[CONFIGURATION_2] / 64 % 2 == 1
+        }
+    }
+
+    // The most that one ramp update moves the drive by.
+    pub fn step(self) -> u8
+        ensures { λ r. ⌜ r ≡ step self ⌝ }
+    {
+        self.registers[MAX_STEP] % 64
+    }
+
+    // The ticks from one ramp update to the next.
+    pub fn period(self) -> u8
+        ensures { λ r. ⌜ r ≡ period self ⌝ }
+    {
+        tables::period_of(self.registers[CONFIGURATION_1])
+    }
+
+    // A wish of the loop; outside closed loop it does nothing.
+    pub fn wish(mut self, drive: u8) -> Fan
+        ensures { λ r. ⌜ r ≡ wished drive self ⌝ }
+    {
+        let keeps = self.closed_loop();
+        if keeps {
+            self.wish = drive;
+        }
+        self
+    }
+
+    // One tick of 12.5 ms.
+    pub fn tick(self) -> Fan
+        ensures { λ r. ⌜ r ≡ ticked self ⌝ }
+    {
+        if self.spin.running {
+            self.spin_tick()
+        } else if self.under_ramp() {
+            self.counted_tick()
+        } else {
+            self
+        }
+    }
+
+    // A tick that the update clock counts. A clock past its period acts as at the period.
+    fn counted_tick(mut self) -> Fan
+        ensures { λ r. ⌜ r ≡ counted self ⌝ }
+    {
+        if self.clock as u16 + 1 < self.period() as u16 {
+            self.clock = self.clock + 1;
+        } else {
+            self.drive = ramp_update(self.drive, self.goal(), self.step());
+            self.clock = 0;
+        }
+        self
+    }
+}
+
+fn larger(a: u8, b: u8) -> u8
+    ensures { λ r. ⌜ r ≡ max a b ⌝ }
+{
+    if a < b { b } else { a }
+}
+
+// The drive moved toward the goal by the smaller of step and distance.
+pub fn ramp_update(drive: u8, goal: u8, step: u8) -> u8
+    ensures { λ r. ⌜ r ≡ moved drive goal step ⌝ }
+{
+    if drive <= goal {
+        if step < goal - drive {
+            drive + step
+        } else {
+            goal
+        }
+    } else {
+        if step < drive - goal {
+            drive - step
+        } else {
+            goal
+        }
+    }
+}

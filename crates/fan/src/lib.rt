@@ -1,0 +1,57 @@
+// One fan of the EMC2305 (document 01: 'Registers', 'Drive', 'Spin-up', 'Tach and watchdog').
+mod drive;
+mod registers;
+mod spin_up;
+mod stored;
+mod tables;
+mod tach;
+
+pub use drive::ramp_update;
+pub use registers::is_locked;
+
+// The offsets of a fan's registers that a rule names.
+pub const SETTING: usize = 0x0;
+
+pub const CONFIGURATION_1: usize = 0x2;
+
+const CONFIGURATION_2: usize = 0x3;
+
+const SPIN_UP: usize = 0x6;
+
+const MAX_STEP: usize = 0x7;
+
+const MINIMUM_DRIVE: usize = 0x8;
+
+const VALID_COUNT: usize = 0x9;
+
+const TARGET_HIGH: usize = 0xD;
+
+const READING_HIGH: usize = 0xE;
+
+const READING_LOW: usize = 0xF;
+
+// A spin-up; where none runs, all of it is 0.
+pub struct SpinUp {
+    pub running: bool,
+    // Ticks so far.
+    pub ticks: u8,
+    // Length, kick and level are fixed at the start. Kick: the first quarter is at 255.
+    pub length: u8,
+    pub kick: bool,
+    pub level: u8,
+}
+
+// The state of one fan.
+pub struct Fan {
+    // By offset. Setting holds what was stored there; a read of it shows the drive.
+    pub registers: [u8; 16],
+    pub drive: u8,
+    pub wish: u8,
+    // Ticks that the update clock has counted.
+    pub clock: u8,
+    pub spin: SpinUp,
+    // The fan's bit of 25h.
+    pub stalled: bool,
+    // The fan's bit of 26h.
+    pub failed: bool,
+}
