@@ -1,9 +1,11 @@
 // Drive: goal, wish, ramp control, and the tick.
 use crate::CONFIGURATION_1;
 use crate::CONFIGURATION_2;
+use crate::DRIVER_OFF;
 use crate::Fan;
 use crate::MAX_STEP;
 use crate::MINIMUM_DRIVE;
+use crate::RAMP;
 use crate::SETTING;
 use crate::TARGET_HIGH;
 use crate::tables;
@@ -19,7 +21,7 @@ impl Fan {
         ensures { λ r. ⌜ r ≡ driverOff self ⌝ }
     {
         if self.closed_loop() {
-            self.registers[TARGET_HIGH] == 0xFF
+            self.registers[TARGET_HIGH] == DRIVER_OFF
         } else {
             false
         }
@@ -47,7 +49,7 @@ impl Fan {
         if self.closed_loop() {
             !self.driver_off()
         } else {
-            self.registers[CONFIGURATION_2] / 64 % 2 == 1
+            self.registers[CONFIGURATION_2] / RAMP % 2 == 1
         }
     }
 
@@ -93,6 +95,7 @@ impl Fan {
     fn counted_tick(mut self) -> Fan
         ensures { λ r. ⌜ r ≡ counted self ⌝ }
     {
+        // In u16, so that a clock of 255 does not overflow.
         if self.clock as u16 + 1 < self.period() as u16 {
             self.clock = self.clock + 1;
         } else {

@@ -30,6 +30,16 @@ const READING_HIGH: usize = 0xE;
 
 const READING_LOW: usize = 0xF;
 
+// Weights of the bits that a rule names: Configuration 1 bit 7, Configuration 2 bit 6, Spin Up bit 5.
+const LOOP: u8 = 0x80;
+
+const RAMP: u8 = 0x40;
+
+const NO_KICK: u8 = 0x20;
+
+// The target high byte that turns the driver off.
+const DRIVER_OFF: u8 = 0xFF;
+
 // A spin-up; where none runs, all of it is 0.
 pub struct SpinUp {
     pub running: bool,

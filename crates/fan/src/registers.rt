@@ -1,6 +1,7 @@
 // A fan's registers: power-on, what a read shows, which writes are stored, which offsets are locked.
 use crate::CONFIGURATION_1;
 use crate::Fan;
+use crate::LOOP;
 use crate::SETTING;
 use crate::SpinUp;
 use crate::tables;
@@ -43,15 +44,16 @@ impl Fan {
             SETTING => !self.closed_loop(),
             0x1..=0x3 => true,
             0x5..=0xD => true,
+            // 4 is undefined, E and F are read only.
             _ => false,
         }
     }
 
-    // Configuration 1 bit 7.
+    // Whether the loop is on.
     pub fn closed_loop(self) -> bool
         ensures { λ r. ⌜ r ≡ closedLoop self ⌝ }
     {
-        self.registers[CONFIGURATION_1] / 128 % 2 == 1
+        self.registers[CONFIGURATION_1] / LOOP % 2 == 1
     }
 }
 

@@ -1,5 +1,6 @@
 // Spin-up: its start, its ticks, its end.
 use crate::Fan;
+use crate::NO_KICK;
 use crate::READING_HIGH;
 use crate::SPIN_UP;
 use crate::SpinUp;
@@ -40,7 +41,7 @@ impl Fan {
             running: true,
             ticks: 0,
             length: tables::length_of(byte),
-            kick: byte / 32 % 2 != 1,
+            kick: byte / NO_KICK % 2 != 1,
             level: tables::level_of(byte),
         }
     }

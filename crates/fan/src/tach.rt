@@ -1,6 +1,7 @@
 // Tach samples, and what the watchdog does to a fan.
 use crate::CONFIGURATION_1;
 use crate::Fan;
+use crate::LOOP;
 use crate::READING_HIGH;
 use crate::READING_LOW;
 use crate::SETTING;
@@ -62,7 +63,7 @@ impl Fan {
     {
         let configuration = self.registers[CONFIGURATION_1];
         self.registers[SETTING] = 0xFF;
-        self.registers[CONFIGURATION_1] = configuration % 128;
+        self.registers[CONFIGURATION_1] = configuration % LOOP;
         self.end(255)
     }
 }
