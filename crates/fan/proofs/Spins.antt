@@ -1,19 +1,21 @@
 -- Ticks in spin-up, and its end.
 use mathlib.Core.Path.{_≡_, refl, ap, _∙_}
 use mathlib.Core.Bool.{true, and-false, or-true, or-false}
-use Prim.Native.Nat.{ℕ, zero, suc, _+_, _/_, _≤_, _<_}
+use Prim.Native.Nat.{ℕ, zero, suc, _+_, _-_, _/_, _≤_, _<_}
 use native.Mathlib.Omega.{arith}
 use native.Mathlib.Nat.{add-zero}
 use lib.Dec.{eqb}
 use borrow.Author.Tests.{lt-ltb, le-ltb}
 use Rattle.laws.specs.Repeat.{repeated}
+use Rattle.laws.proofs.Repeat.{last-step}
 use Rattle.laws.proofs.Tests.{by-test}
 use Rattle.fan.specs.declared.Fan.{Fan}
 use Rattle.fan.specs.Registers.{targetHigh}
 use Rattle.fan.specs.Drive.{goal, underRamp}
 use Rattle.fan.specs.Spin.{spinLength, spinKick, spinNew, spinOn, spinDrive, inSpin, started, tooSlow, spinFailed, spinOver}
 use Rattle.fan.specs.Tick.{ticked}
-use Rattle.fan.specs.Promises.{SpinTicks, SpinDrives, LastDirect, LastClosed, driveAfter}
+use Rattle.fan.specs.Promises.{SpinTicks, SpinDrives, LastDirect, LastClosed, SpunDirect, SpunClosed, driveAfter, spunUp}
+use Rattle.fan.proofs.TableRules.{length-some}
 use Rattle.fan.proofs.Steps.{ticks-spin, spins-on, spins-out}
 
 pub spin-ticks : SpinTicks
@@ -55,3 +57,24 @@ last-closed f run h closed = (
   λ slow. last f run h ∙ rw (slow, closed),
   λ fast. last f run h ∙ rw (fast, closed) (by-test (eqb (targetHigh f) 0xFF) (λ t. rw t) (λ t. rw t)),
 )
+
+-- the fan before the last tick of a spin-up, with nothing since its start
+abbrev before-last : Fan → Fan
+before-last f = inSpin (spinOn (spinLength f - 1) (spinNew f)) f
+
+to-last : (f : Fan) → spunUp f ≡ ticked (before-last f)
+unfolding started
+to-last f =
+    let h = length-some f in
+    last-step (spinLength f) ticked (started f) h
+    ∙ ap ticked (spin-ticks (spinLength f - 1) (spinNew f) f refl (omega arith))
+
+pub spun-direct : SpunDirect
+unfolding tooSlow
+spun-direct f direct = to-last f ∙ last-direct (before-last f) refl (omega (arith, length-some f)) direct
+
+pub spun-closed : SpunClosed
+unfolding tooSlow started
+spun-closed f closed =
+    let l = last-closed (before-last f) refl (omega (arith, length-some f)) closed in
+    (λ slow. to-last f ∙ l .0 slow, λ fast. to-last f ∙ l .1 fast)

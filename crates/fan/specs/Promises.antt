@@ -123,6 +123,25 @@ LastClosed =
     → (tooSlow f ≡ true → ticked f ≡ started (withFailed true f))
     × (tooSlow f ≡ false → ticked f ≡ ended (cond (driverOff f) 0 (f .spin .level)) f)
 
+-- a fan after all ticks of a spin-up, with nothing between them
+abbrev pub spunUp : Fan → Fan
+spunUp f = repeated (spinLength f) ticked (started f)
+
+-- direct: at the level fixed at the start, or without ramp control at Setting, and the 26h bit as the reading says
+abbrev pub SpunDirect : Type 0
+SpunDirect =
+    (f : Fan)
+    → closedLoop f ≡ false
+    → spunUp f ≡ ended (cond (bit 6 (configuration2 f)) (spinLevel f) (setting f)) (withFailed (f .failed || tooSlow f) f)
+
+-- closed loop: at its start again with the 26h bit set, or at the level, with the driver off at 0
+abbrev pub SpunClosed : Type 0
+SpunClosed =
+    (f : Fan)
+    → closedLoop f ≡ true
+    → (tooSlow f ≡ true → spunUp f ≡ started (withFailed true f))
+    × (tooSlow f ≡ false → spunUp f ≡ ended (cond (driverOff f) 0 (spinLevel f)) f)
+
 -- what each move leaves in the registers: only a stored write, a sample and the watchdog change any, each those it names
 abbrev pub RegistersAfter : Type 0
 RegistersAfter =
