@@ -3,7 +3,8 @@ use mathlib.Core.Path.{_≡_, refl, ap, _∙_}
 use mathlib.Core.Bool.{true, and-false, or-true, or-false}
 use Prim.Native.Nat.{ℕ, zero, suc, _+_, _-_, _/_, _≤_, _<_}
 use native.Mathlib.Omega.{arith}
-use native.Mathlib.Nat.{add-zero}
+use native.Mathlib.Nat.{add-zero, add-suc}
+use native.Mathlib.Numerals.{add-one}
 use lib.Dec.{eqb}
 use borrow.Author.Tests.{lt-ltb, le-ltb}
 use Rattle.laws.specs.Repeat.{repeated}
@@ -25,8 +26,7 @@ spin-ticks (suc n) s f run h =
     ap ticked (spin-ticks n s f run (omega arith))
     ∙ ticks-spin (inSpin (spinOn n s) f) run
     ∙ spins-on (inSpin (spinOn n s) f) (omega arith)
-    ∙ ap (λ (k : ℕ). inSpin (record { running = s .running; ticks = k; length = s .length; kick = s .kick; level = s .level }) f)
-    (let e : s .ticks + n + 1 ≡ s .ticks + suc n = omega arith in e)
+    ∙ rw (add-one (s .ticks + n), add-suc (s .ticks) n)
 
 -- the drive of the spin-up that has just started, n ticks on
 drive-then : (n : ℕ) (f : Fan) → n < spinLength f → driveAfter (started f) n ≡ spinDrive (spinOn n (spinNew f))

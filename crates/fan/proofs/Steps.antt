@@ -18,10 +18,10 @@ pub waits : (f : Fan) → f .clock + 1 < period f → counted f ≡ withClock (f
 unfolding counted
 waits f h = rw (lt-leb (period f) (f .clock + 1) h)
 
--- at or past the period it updates
-pub updates : (f : Fan) → period f ≤ f .clock + 1 → counted f ≡ updated f
+-- at or past the period it acts
+pub acts : (f : Fan) → period f ≤ f .clock + 1 → counted f ≡ updated f
 unfolding counted
-updates f h = rw (le-leb (period f) (f .clock + 1) h)
+acts f h = rw (le-leb (period f) (f .clock + 1) h)
 
 -- a spin-up goes on before its last tick
 pub spins-on : (f : Fan) → f .spin .ticks + 1 < f .spin .length → spinTick f ≡ inSpin (spinOn 1 (f .spin)) f

@@ -17,7 +17,7 @@ use Rattle.fan.specs.Drive.{goal, underRamp, step, period}
 use Rattle.fan.specs.Tick.{updated, counted, ticked}
 use Rattle.fan.specs.Promises.{RampTicks, PastPeriod}
 use Rattle.fan.proofs.TableRules.{period-some}
-use Rattle.fan.proofs.Steps.{waits, updates, ticks-ramp}
+use Rattle.fan.proofs.Steps.{waits, acts, ticks-ramp}
 use Rattle.fan.proofs.Ramps.{stays, moved-twice}
 
 -- a fan with another drive and clock
@@ -41,7 +41,7 @@ module _ (f : Fan) (ramp : underRamp f ≡ true) (still : f .spin .running ≡ f
   -- at the period it moves the drive
   moves : (d p : ℕ) → period f ≤ p + 1 → ticked (ramped d p f) ≡ ramped (moved d (goal f) (step f)) 0 f
   unfolding updated goal
-  moves d p h = counts d p ∙ updates (ramped d p f) h
+  moves d p h = counts d p ∙ acts (ramped d p f) h
 
   -- one tick more is counted
   next : (m : ℕ) → ticked (after m f) ≡ after (m + 1) f
@@ -67,4 +67,4 @@ ramp-ticks (suc n) f ramp still h =
 
 pub past-period : PastPeriod
 unfolding updated
-past-period f ramp still h = ticks-ramp f still ramp ∙ updates f h
+past-period f ramp still h = ticks-ramp f still ramp ∙ acts f h

@@ -51,7 +51,7 @@ targetHigh f = byteAt 0xD f
 abbrev pub readingHigh : Fan → ℕ
 readingHigh f = byteAt 0xE f
 
--- offsets 0 to D but for 4 are written; E and F are read only
+-- offsets 0 to D but for 4 are writable; E and F are read only
 abbrev pub writable : ℕ → Bool
 writable offset = leb offset 0x3 || (leb 0x5 offset && leb offset 0xD)
 

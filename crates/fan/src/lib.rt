@@ -40,7 +40,7 @@ const NO_KICK: u8 = 0x20;
 // The target high byte that turns the driver off.
 const DRIVER_OFF: u8 = 0xFF;
 
-// A spin-up; where none runs, all of it is 0.
+// A spin-up. Power-on and the end of one leave all of it 0.
 pub struct SpinUp {
     pub running: bool,
     // Ticks so far.

@@ -111,6 +111,7 @@ impl Fan {
         }
     }
 
+    // The end at the drive that a spin-up leaves.
     fn spin_ended(self) -> Fan
         ensures { λ r. ⌜ r ≡ ended (spinLeaves self) self ⌝ }
     {

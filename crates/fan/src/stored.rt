@@ -22,6 +22,7 @@ impl Fan {
         }
     }
 
+    // The byte is stored whole.
     fn put(mut self, offset: usize, byte: u8) -> Fan
         requires { ⌜ offset < 16 ⌝ }
         ensures { λ r. ⌜ r ≡ put offset byte self ⌝ }
@@ -43,6 +44,7 @@ impl Fan {
         self
     }
 
+    // The update clock at 0 where the write clears it.
     fn clock_set(mut self, offset: usize) -> Fan
         ensures { λ r. ⌜ r ≡ clockSet offset self ⌝ }
     {
@@ -74,12 +76,14 @@ impl Fan {
         }
     }
 
+    // In spin-up: goal 0 ends it with drive 0.
     fn spin_held(self) -> Fan
         ensures { λ r. ⌜ r ≡ spinHeld self ⌝ }
     {
         if self.goal() == 0 { self.end(0) } else { self }
     }
 
+    // Out of spin-up: it starts one, or without ramp control drive equals goal at once.
     fn drive_set(mut self) -> Fan
         ensures { λ r. ⌜ r ≡ driveSet self ⌝ }
     {

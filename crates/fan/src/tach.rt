@@ -46,6 +46,7 @@ impl Fan {
         }
     }
 
+    // A stall sets the 25h bit, and in closed loop starts a spin-up.
     fn stall(mut self) -> Fan
         ensures { λ r. ⌜ r ≡ stall self ⌝ }
     {

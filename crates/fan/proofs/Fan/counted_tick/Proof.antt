@@ -2,7 +2,7 @@
 use mathlib.Core.Path.{sym}
 use borrow.Author.Needs.{needs}
 use Rattle.fan.specs.Tick.{updated}
-use Rattle.fan.proofs.Steps.{waits, updates}
+use Rattle.fan.proofs.Steps.{waits, acts}
 use Rattle.fan.proofs.Fan.counted_tick.Statement.{statement}
 use Rattle.fan.proofs.Fan.counted_tick.Tie as tie
 
@@ -39,7 +39,7 @@ returns-2 : tie.Need-returns-2
 unfolding updated
 returns-2 c =
     rw (c .ramp-update .ensures, c .before .step .ensures, c .before .before .goal .ensures)
-    (sym (updates (c .before .before .before .before .before .before .args .self) (rw (c .before .before .before .before .period .ensures) at (c .before .before .before .if1 .left))))
+    (sym (acts (c .before .before .before .before .before .before .args .self) (rw (c .before .before .before .before .period .ensures) at (c .before .before .before .if1 .left))))
 
 pub counted-tick-spec : {M : Type 1} → statement M
 counted-tick-spec =
