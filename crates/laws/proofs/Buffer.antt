@@ -1,11 +1,12 @@
 -- Laws on bytes laid over a buffer.
 use mathlib.Core.Path.{_≡_, sym, ap, _∙_}
 use mathlib.Core.List.{List, [], _∷_, _++_, append-assoc, append-nil}
-use Prim.Native.Nat.{ℕ, _+_, _-_, _≤_}
+use Prim.Native.Nat.{ℕ, suc, _+_, _-_, _≤_, _<_}
 use native.Mathlib.Omega.{arith}
 use native.Mathlib.Nat.{zero-add}
-use lib.ListN.{length, take, drop, set, length-append, length-drop, drop-of-length-le}
-use lib.Seq.{take-length, sets, sets-eq, take-all, take-append-seam, drop-append-seam, drop-drop, length-take-le}
+use native.Mathlib.Numerals.{add-one}
+use lib.ListN.{length, getD, take, drop, set, length-append, length-drop, drop-of-length-le}
+use lib.Seq.{take-length, sets, sets-eq, take-all, take-append-seam, drop-append-seam, drop-drop, length-take-le, drop-cons, set-at}
 use Rattle.laws.specs.Buffer.{bytesAt, laidOver}
 
 -- bytes that are stored one after the other from the front are laid over it
@@ -63,3 +64,12 @@ laid-cons x rest buffer last h e = rw e (laid-behind (x ∷ []) rest buffer (set
 -- a whole slice that is copied to the front of a buffer is laid over it
 pub laid-copy : (src dst last : List ℕ) → last ≡ take (length src) src ++ drop (length src) dst → last ≡ laidOver src dst
 laid-copy src dst last e = e ∙ ap (λ (l : List ℕ). l ++ drop (length src) dst) (take-length src)
+
+-- one byte more, set right behind what is laid
+pub laid-one : (bytes : List ℕ) (x : ℕ) (buffer : List ℕ) (i : ℕ) → length bytes ≡ i → i < length buffer
+    → set (laidOver bytes buffer) i x ≡ laidOver (bytes ++ (x ∷ [])) buffer
+laid-one bytes x buffer i e h =
+    let q : length (bytes ++ (x ∷ [])) ≡ suc i = length-append bytes (x ∷ []) ∙ ap (λ (k : ℕ). k + 1) e ∙ add-one i in
+    ap (λ (l : List ℕ). set (bytes ++ l) i x) (ap (λ (k : ℕ). drop k buffer) e ∙ drop-cons buffer i 0 h)
+    ∙ set-at bytes (getD buffer i 0) (drop (suc i) buffer) x i e
+    ∙ sym (append-assoc bytes (x ∷ []) (drop (length (bytes ++ (x ∷ []))) buffer) ∙ ap (λ (k : ℕ). bytes ++ (x ∷ drop k buffer)) q)

@@ -4,3 +4,4 @@ pub mod Tests
 pub mod Repeat
 pub mod Tables
 pub mod Divide
+pub mod Lists

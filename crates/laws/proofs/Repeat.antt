@@ -1,7 +1,9 @@
 -- Laws on a step taken n times.
-use mathlib.Core.Path.{_≡_, ap}
-use Prim.Native.Nat.{ℕ, zero, suc, _-_, _≤_}
+use mathlib.Core.Path.{_≡_, refl, ap, _∙_}
+use Prim.Native.Nat.{ℕ, zero, suc, _+_, _-_, _≤_}
 use native.Mathlib.Omega.{arith}
+use native.Mathlib.Nat.{add-zero, add-suc}
+use native.Mathlib.Numerals.{add-one}
 use Rattle.laws.specs.Repeat.{repeated}
 
 -- the last step, where there is one
@@ -9,3 +11,20 @@ pub last-step : {A : Type 0} (n : ℕ) (f : A → A) (x : A) → 1 ≤ n → rep
 unfolding repeated
 last-step zero f x h = absurd (omega arith)
 last-step (suc n) f x h = let e : n ≡ suc n - 1 = omega arith in ap (λ (k : ℕ). f (repeated k f x)) e
+
+-- m + n steps are m, then n
+pub repeated-add : {A : Type 0} (m n : ℕ) (f : A → A) (x : A) → repeated (m + n) f x ≡ repeated n f (repeated m f x)
+unfolding repeated
+repeated-add m zero f x = rw (add-zero m)
+repeated-add m (suc n) f x = rw (add-suc m n) (ap f (repeated-add m n f x))
+
+-- what each step keeps, n steps keep
+pub repeated-keeps : {A B : Type 0} (v : A → B) (n : ℕ) (f : A → A) (x : A) → ((y : A) → v (f y) ≡ v y) → v (repeated n f x) ≡ v x
+unfolding repeated
+repeated-keeps v zero f x keep = refl
+repeated-keeps v (suc n) f x keep = keep (repeated n f x) ∙ repeated-keeps v n f x keep
+
+-- one step more, where i were taken
+pub once-more : {A : Type 0} (f : A → A) (i : ℕ) (x now next : A) → now ≡ repeated i f x → next ≡ f now → next ≡ repeated (i + 1) f x
+unfolding repeated
+once-more f i x now next e h = rw (h, e, add-one i) refl
