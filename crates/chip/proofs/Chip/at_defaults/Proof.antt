@@ -1,0 +1,15 @@
+-- `chip::Chip::at_defaults` meets its contract.
+use borrow.Author.Needs.{needs}
+use Rattle.chip.specs.Registers.{atDefaults}
+use Rattle.chip.proofs.Chip.at_defaults.Statement.{statement}
+use Rattle.chip.proofs.Chip.at_defaults.Tie as tie
+
+reset-requires : tie.Need-reset-requires
+reset-requires c κs = search needs
+
+returns : tie.Need-returns
+unfolding atDefaults
+returns c = rw (c .reset .ensures)
+
+pub at-defaults-spec : {M : Type 1} → statement M
+at-defaults-spec = tie.close (tie.spec reset-requires returns)

@@ -1,0 +1,24 @@
+-- `chip::Chip::fired` meets its contract.
+use mathlib.Core.Bool.{true}
+use mathlib.Core.List.{List}
+use mathlib.Core.Path.{ap, _∙_}
+use borrow.Author.Needs.{needs}
+use Rattle.fan.specs.declared.Fan.{Fan}
+use Rattle.chip.specs.Ticks.{allFired}
+use Rattle.chip.specs.State.{withFans, withExpired}
+use Rattle.chip.proofs.Chip.fired.Statement.{statement}
+use Rattle.chip.proofs.Chip.fired.Tie as tie
+
+each-requires : tie.Need-each-requires
+each-requires c κs = search needs
+
+with-fans-requires : tie.Need-with-fans-requires
+with-fans-requires c κs = search needs
+
+returns : tie.Need-returns
+unfolding allFired
+returns c =
+    c .with-fans .ensures ∙ ap (λ (l : List Fan). withFans l (withExpired true (c .before .before .before .args .self))) (c .before .each .ensures)
+
+pub fired-spec : {M : Type 1} → statement M
+fired-spec = tie.close (tie.spec each-requires with-fans-requires returns)

@@ -1,0 +1,10 @@
+pub mod Maps
+pub mod Others
+pub mod Ways
+pub mod Bits
+pub mod Moves
+pub mod Statuses
+pub mod Watches
+pub mod ChipTicks
+pub mod Stores
+pub mod Promises

@@ -1,0 +1,17 @@
+-- `chip::fans::weighed` meets its contract.
+use borrow.Author.Needs.{needs}
+use Rattle.chip.proofs.Bits.{weight-is}
+use Rattle.chip.proofs.fans.weighed.Statement.{statement}
+use Rattle.chip.proofs.fans.weighed.Tie as tie
+
+array-read-result : tie.Need-array-read-result
+array-read-result c = search needs
+
+returns : tie.Need-returns
+returns c = rw (c .if1 .taken) (weight-is (c .before .args .i) (search needs))
+
+returns-2 : tie.Need-returns-2
+returns-2 c = search needs
+
+pub weighed-spec : {M : Type 1} → statement M
+weighed-spec = tie.close (tie.spec array-read-result returns returns-2)

@@ -1,0 +1,56 @@
+-- The five fans side by side: what happens to all of them, and their status bits.
+use mathlib.Core.Bool.{Bool, false, cond, _&&_, _||_}
+use mathlib.Core.List.{List, [], map}
+use Prim.Native.Nat.{ℕ, zero, suc, _+_, _^_}
+use lib.ListN.{getD}
+use Rattle.fan.specs.declared.Fan.{Fan}
+use Rattle.fan.specs.State.{withStalled, withFailed}
+use Rattle.fan.specs.Registers.{bit, noSpin}
+use Rattle.fan.specs.Tick.{ticked}
+use Rattle.fan.specs.Tach.{fired}
+use Rattle.chip.specs.declared.Bit.{Bit}
+use Rattle.chip.specs.declared.Bit.the-variants.{Stall, Spin}
+use Rattle.chip.specs.declared.Move.{Move}
+use Rattle.chip.specs.declared.Move.the-variants.{Tick, Watchdog, Clear}
+
+-- past the fifth fan there is none: an empty one stands for it
+abbrev pub noFan : Fan
+noFan = record { registers = []; drive = 0; wish = 0; clock = 0; spin = noSpin; stalled = false; failed = false }
+
+-- fan i + 1
+abbrev pub fanAt : List Fan → ℕ → Fan
+fanAt fans i = getD fans i noFan
+
+-- the status bits of a fan: 25h stall, 26h spin
+abbrev pub standing : Bit → Fan → Bool
+standing Stall f = f .stalled
+standing Spin f = f .failed
+
+-- a fan with one of the two cleared
+abbrev pub bitCleared : Bit → Fan → Fan
+bitCleared Stall f = withStalled false f
+bitCleared Spin f = withFailed false f
+
+-- what happens to all five alike: a tick, the watchdog's firing, a status bit cleared
+abbrev pub moveOf : Move → Fan → Fan
+moveOf Tick f = ticked f
+moveOf Watchdog f = fired f
+moveOf (Clear bit) f = bitCleared bit f
+
+-- each fan takes a tick of its own: no fan waits for another
+abbrev pub allTicked : List Fan → List Fan
+allTicked fans = map ticked fans
+
+-- the status byte of the first n fans: bit i - 1 for fan i
+unfoldable pub bitsOf : Bit → List Fan → ℕ → ℕ
+bitsOf which fans zero = 0
+bitsOf which fans (suc i) = bitsOf which fans i + cond (standing which (fanAt fans i)) (2 ^ i) 0
+
+-- a 25h or 26h bit of the fan stands, and the fan's bit in 29h is 1
+abbrev pub interrupts : ℕ → ℕ → Fan → Bool
+interrupts enable i f = bit i enable && (f .stalled || f .failed)
+
+-- so of one of the first n fans
+unfoldable pub interrupting : ℕ → List Fan → ℕ → Bool
+interrupting enable fans zero = false
+interrupting enable fans (suc i) = interrupting enable fans i || interrupts enable i (fanAt fans i)

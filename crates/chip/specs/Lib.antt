@@ -1,0 +1,6 @@
+pub mod State
+pub mod Map
+pub mod Fans
+pub mod Registers
+pub mod Ticks
+pub mod Promises

@@ -1,0 +1,24 @@
+// The register map: what stands at an address.
+use crate::Register;
+ghost use mathlib.Core.Path.{_≡_};
+ghost use Rattle.chip.specs.Map.{registerOf};
+
+// What stands at a register address.
+pub fn register_of(address: u8) -> Register
+    ensures { λ r. ⌜ r ≡ registerOf address ⌝ }
+{
+    let at = address as usize;
+    match at {
+        0x20 => Register::Configuration,
+        0x24 => Register::Status,
+        0x25 => Register::StallStatus,
+        0x26 => Register::SpinStatus,
+        0x27 => Register::DriveFailStatus,
+        0x29 => Register::Enable,
+        0x2A..=0x2D => Register::Output(at - 0x2A),
+        0x30..=0x7F => Register::OfFan((at - 0x30) / 0x10, at % 0x10),
+        0xEF => Register::Lock,
+        0xFC..=0xFF => Register::Identity(at - 0xFC),
+        _ => Register::Undefined,
+    }
+}
