@@ -1,0 +1,9 @@
+pub mod Turns
+pub mod Ranged
+pub mod Answers
+pub mod ReadKeeps
+pub mod Pointers
+pub mod Numbers
+pub mod FansKept
+pub mod LockKept
+pub mod Promises

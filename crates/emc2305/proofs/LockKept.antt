@@ -1,0 +1,164 @@
+-- Locked, no event but a power-on changes EFh or a locked register.
+use mathlib.Core.Path.{_≡_, refl, sym, ap, _∙_}
+use mathlib.Core.Bool.{Bool, true, false, cond, not, _&&_, false≢true, true≢false}
+use mathlib.Core.List.{List, [], _∷_, map}
+use Prim.Native.Nat.{ℕ, _-_, _≤_}
+use native.Mathlib.Omega.{arith}
+use lib.Dec.{leb, eqb}
+use lib.ListN.{length, getD, set}
+use lib.Seq.{getD-set-other}
+use borrow.Author.Tests.{leb-true, eqb-true, ne-eqb, not-true}
+use Rattle.laws.proofs.Lists.{map-keeps, set-keeps}
+use Rattle.laws.proofs.Repeat.{repeated-keeps}
+use Rattle.laws.proofs.Tests.{by-test, and-left, and-right}
+use Rattle.eventlog.specs.declared.Event.{Event}
+use Rattle.eventlog.specs.declared.Event.the-variants.{PowerOn, Ticks, Sample, Wish, Transfer}
+use Rattle.fan.specs.declared.Fan.{Fan}
+use Rattle.fan.specs.Registers.{bit, byteAt, locked, undefined, shown, stores}
+use Rattle.fan.specs.Drive.{wished}
+use Rattle.fan.specs.Stored.{written}
+use Rattle.fan.specs.Tach.{sampled}
+use Rattle.fan.proofs.Kept.{registers-after}
+use Rattle.chip.specs.declared.Bit.the-variants.{Stall, Spin}
+use Rattle.chip.specs.declared.Chip.{Chip}
+use Rattle.chip.specs.declared.Move.{Move}
+use Rattle.chip.specs.declared.Move.the-variants.{Tick, Watchdog, Clear}
+use Rattle.chip.specs.declared.Register.{Register}
+use Rattle.chip.specs.declared.Register.the-variants.{Configuration, Status, StallStatus, SpinStatus, DriveFailStatus, Enable, Output, OfFan, Lock, Identity, Undefined}
+use Rattle.chip.specs.State.{withPointer}
+use Rattle.chip.specs.Map.{registerOf}
+use Rattle.chip.specs.Fans.{noFan, fanAt, moveOf}
+use Rattle.chip.specs.Registers.{shownOf, isLocked, guarded, writableIn, fanStored, shownAt, storesAt, writtenAt, fedChip}
+use Rattle.chip.specs.Ticks.{chipTicked}
+use Rattle.chip.proofs.Moves.{stored-keeps, written-keeps, tickMove, tick-fans, tick-rest}
+use Rattle.emc2305.specs.Transfers.{byteWritten, inTurn, sent, readOut}
+use Rattle.emc2305.specs.Step.{taken}
+use Rattle.emc2305.specs.Traffic.{isPowerOn}
+use Rattle.emc2305.specs.Promises.{Locked, after}
+use Rattle.emc2305.proofs.ReadKeeps.{passed-keeps, read-keeps}
+use Rattle.emc2305.proofs.Numbers.{after-keeps}
+
+-- a fan's locked register
+module _ (o : ℕ) (l : locked o ≡ true) where
+  inside : (3 ≤ o) × (o ≤ 11)
+  unfolding locked
+  inside =
+      by-test (eqb o 3) (λ t. omega (arith, eqb-true o 3 t))
+      (λ t.
+      let e : leb 5 o && leb o 11 ≡ true = rw t at l in
+      omega (arith, leb-true 5 o (and-left (leb 5 o) (leb o 11) e), leb-true o 11 (and-right (leb 5 o) (leb o 11) e)))
+
+  -- it shows its byte alone
+  still : (f g : Fan) (registers : List ℕ) → g .registers ≡ registers → getD registers o 0 ≡ byteAt o f → shown g o ≡ shown f o
+  unfolding shown
+  still f g registers e b =
+      rw (ne-eqb o 0 (λ z. omega (arith, inside))) (ap (λ (r : List ℕ). cond (undefined o) 0 (getD r o 0)) e ∙ ap (cond (undefined o) 0) b)
+
+  -- two bytes that are stored below or above the locked offsets don't change it
+  beside : (f : Fan) (j k x y : ℕ) → (o ≡ j → ⊥) → (o ≡ k → ⊥) → getD (set (set (f .registers) j x) k y) o 0 ≡ byteAt o f
+  beside f j k x y m n = getD-set-other (set (f .registers) j x) k o y 0 n ∙ getD-set-other (f .registers) j o x 0 m
+
+  move-still : (move : Move) (f : Fan) → shown (moveOf move f) o ≡ shown f o
+  move-still Tick f = still f _ _ (registers-after f .0) refl
+  move-still Watchdog f = still f _ _ (registers-after f .4) (beside f 0x0 0x2 _ _ (λ e. omega (arith, inside)) (λ e. omega (arith, inside)))
+  move-still (Clear Stall) f = still f _ _ refl refl
+  move-still (Clear Spin) f = still f _ _ refl refl
+
+  wish-still : (wish : ℕ) (f : Fan) → shown (wished wish f) o ≡ shown f o
+  wish-still wish f = still f _ _ (registers-after f .1 wish) refl
+
+  sample-still : (count : ℕ) (watch : Bool) (f : Fan) → shown (sampled count watch f) o ≡ shown f o
+  sample-still count watch f =
+      still f _ _ (registers-after f .3 count watch) (beside f 0xE 0xF _ _ (λ e. omega (arith, inside)) (λ e. omega (arith, inside)))
+
+  write-still : (offset byte : ℕ) (f : Fan) → locked offset ≡ false → shown (written offset byte f) o ≡ shown f o
+  write-still offset byte f free =
+      still f _ _ (registers-after f .2 offset byte)
+      (by-test (stores f offset)
+      (λ t. rw t (getD-set-other (f .registers) offset o byte 0 (λ e. true≢false (sym l ∙ ap locked e ∙ free))))
+      (λ t. rw t))
+
+  -- in the list of fans: all moved alike, and one changed
+  all-still : (move : Move) (fans : List Fan) (i : ℕ) → shown (fanAt (map (moveOf move) fans) i) o ≡ shown (fanAt fans i) o
+  all-still move fans i = map-keeps (λ (f : Fan). shown f o) (moveOf move) (move-still move) fans i noFan
+
+  one-still : (k : ℕ) (f : Fan) (fans : List Fan) (i : ℕ) → shown f o ≡ shown (fanAt fans k) o → shown (fanAt (set fans k f) i) o ≡ shown (fanAt fans i) o
+  one-still k f fans i e = set-keeps (λ (g : Fan). shown g o) fans k f i noFan e
+
+-- every guarded register shows in d what it shows in c
+abbrev Same : Chip → Chip → Type 0
+Same c d = (register : Register) → guarded register ≡ true → shownOf d register ≡ shownOf c register
+
+-- so it is where 20h, EFh and the fans' locked registers do
+same : (c d : Chip) → d .configuration ≡ c .configuration → d .lock ≡ c .lock
+    → ((i o : ℕ) → locked o ≡ true → shown (fanAt (d .fans) i) o ≡ shown (fanAt (c .fans) i) o) → Same c d
+same c d e l f Configuration g = e
+same c d e l f Status g = absurd (false≢true g)
+same c d e l f StallStatus g = absurd (false≢true g)
+same c d e l f SpinStatus g = absurd (false≢true g)
+same c d e l f DriveFailStatus g = absurd (false≢true g)
+same c d e l f Enable g = absurd (false≢true g)
+same c d e l f (Output i) g = absurd (false≢true g)
+same c d e l f (OfFan i o) g = f i o g
+same c d e l f Lock g = l
+same c d e l f (Identity i) g = absurd (false≢true g)
+same c d e l f Undefined g = absurd (false≢true g)
+
+-- and where none of the three changed
+aside : (c d : Chip) → d .configuration ≡ c .configuration → d .lock ≡ c .lock → d .fans ≡ c .fans → Same c d
+aside c d e l f = same c d e l (λ i o k. ap (λ (fans : List Fan). shown (fanAt fans i) o) f)
+
+tick-same : (c : Chip) → Same c (chipTicked c)
+tick-same c = same c (chipTicked c) (tick-rest c .0) (tick-rest c .1) (λ i o l. rw (tick-fans c) (all-still o l (tickMove c) (c .fans) i))
+
+read-same : (n : ℕ) (c : Chip) → Same c (readOut n c)
+read-same n c register g =
+    read-keeps (λ (d : Chip). shownOf d register) n c (λ d p. aside d _ refl refl refl register g) (λ d. aside d _ refl refl refl register g)
+    (λ d which. same d _ refl refl (λ i o l. all-still o l (Clear which) (d .fans) i) register g)
+
+-- a write that is stored while locked is to no guarded register
+unguarded : (c : Chip) (address : ℕ) → isLocked c ≡ true → storesAt c address ≡ true → not (guarded (registerOf address)) ≡ true
+unfolding storesAt
+unguarded c address k t = rw k at (and-right (writableIn c (registerOf address)) (not (isLocked c && guarded (registerOf address))) t)
+
+write-same : (n byte : ℕ) (c : Chip) → isLocked c ≡ true → Same c (byteWritten n byte c)
+unfolding byteWritten fanStored
+write-same n byte c k register g =
+    let v : Chip → ℕ = λ d. shownOf d register in
+    passed-keeps v n (writtenAt (c .pointer) byte c) (λ p. aside _ _ refl refl refl register g)
+    ∙ written-keeps v (c .pointer) byte c
+    (λ t.
+    stored-keeps v (λ (r : Register). not (guarded r)) byte c (λ e. absurd (false≢true e)) (aside c _ refl refl refl register g)
+    (λ j. aside c _ refl refl refl register g)
+    (λ j offset e.
+    let free = not-true (locked offset) e in
+    same c _ refl refl (λ i o l. one-still o l j _ (c .fans) i (write-still o l offset byte (fanAt (c .fans) j) free)) register g)
+    (λ e. absurd (false≢true e)) (registerOf (c .pointer)) (unguarded c (c .pointer) k t))
+
+turns-same : (n : ℕ) (bytes : List ℕ) (c : Chip) → isLocked c ≡ true → Same c (inTurn n bytes c)
+unfolding inTurn
+turns-same n [] c k register g = refl
+turns-same n (byte ∷ rest) c k register g =
+    turns-same n rest (byteWritten n byte c) (ap (bit 0) (write-same n byte c k Lock refl) ∙ k) register g ∙ write-same n byte c k register g
+
+sent-same : (bytes : List ℕ) (c : Chip) → isLocked c ≡ true → Same c (sent bytes c)
+unfolding sent
+sent-same [] c k register g = refl
+sent-same (pointer ∷ rest) c k register g =
+    turns-same (length rest) rest (withPointer pointer c) k register g ∙ aside c _ refl refl refl register g
+
+taken-same : (log : List ℕ) (event : Event) (c : Chip) → isLocked c ≡ true → isPowerOn event ≡ false → Same c (taken log event c)
+unfolding taken
+taken-same log (PowerOn address) c k p register g = absurd (true≢false p)
+taken-same log (Ticks n) c k p register g = repeated-keeps (λ (d : Chip). shownOf d register) n chipTicked c (λ d. tick-same d register g)
+taken-same log (Sample fan n) c k p register g = same c _ refl refl (λ i o l. one-still o l (fan - 1) _ (c .fans) i (sample-still o l n _ _)) register g
+taken-same log (Wish fan drive) c k p register g = same c _ refl refl (λ i o l. one-still o l (fan - 1) _ (c .fans) i (wish-still o l drive _)) register g
+taken-same log (Transfer true to place n) c k p register g = read-same _ (fedChip c) register g ∙ aside c _ refl refl refl register g
+taken-same log (Transfer false to place n) c k p register g = sent-same _ (fedChip c) k register g ∙ aside c _ refl refl refl register g
+
+pub locked-kept : Locked
+unfolding shownAt
+locked-kept c log event room k p =
+    let kept : Same c (after log event room c) =
+    λ register g. after-keeps (λ (d : Chip). shownOf d register) c log event room (taken-same log event c k p register g) in
+    (ap (bit 0) (kept Lock refl) ∙ k, λ address g. kept (registerOf address) g)

@@ -1,0 +1,92 @@
+-- What an event that is in range tells a step, and the number of a step, way by way.
+use mathlib.Core.Path.{_≡_, refl, sym, subst}
+use mathlib.Core.Bool.{Bool, true, false, cond, not, _&&_}
+use mathlib.Core.List.{List, [], _∷_}
+use Prim.Native.Nat.{ℕ, _+_, _≤_, _<_}
+use native.Mathlib.Omega.{arith}
+use types.Run.{OneOf, miss}
+use denote.Enum.Declared.{tagOf}
+use lib.Dec.{leb, eqb}
+use lib.ListN.{length, getD}
+use borrow.Author.Tests.{leb-true, eqb-true, ne-eqb, lt-ltb, le-ltb}
+use Rattle.laws.proofs.Tests.{and-left, and-right}
+use Rattle.eventlog.specs.declared.Event.{Event}
+use Rattle.eventlog.specs.declared.Event.the-variants.{PowerOn, Ticks, Sample, Wish, Transfer}
+use Rattle.eventlog.specs.Range.{fanInRange, addressInRange, bytesInRange, readInRange, inRange, rangeNumber}
+use Rattle.eventlog.proofs.Event.{the-type}
+use Rattle.eventlog.proofs.Ranges.{in-range, place-within}
+use Rattle.emc2305.specs.Step.{beforePower, elsewhere, replyLength, stepNumber}
+
+-- what needs power: all but a power-on
+abbrev poweredTags : List ℕ
+poweredTags = 1 ∷ 2 ∷ 3 ∷ 4 ∷ []
+
+pub needs-power : (powered : Bool) (event : Event) → OneOf poweredTags (tagOf the-type event) → not powered ≡ beforePower powered event
+needs-power powered (PowerOn address) h = absurd (miss poweredTags 0 tt h)
+needs-power powered (Ticks count) h = refl
+needs-power powered (Sample fan count) h = refl
+needs-power powered (Wish fan drive) h = refl
+needs-power powered (Transfer reads to place n) h = refl
+
+-- what is no transfer: it goes to no other address, and has no reply
+abbrev noTransferTags : List ℕ
+noTransferTags = 0 ∷ 1 ∷ 2 ∷ 3 ∷ []
+
+pub no-transfer : (address : ℕ) (log : List ℕ) (event : Event) → OneOf noTransferTags (tagOf the-type event)
+    → (false ≡ elsewhere address event) × (0 ≡ replyLength log event)
+no-transfer address log (PowerOn to) h = (refl, refl)
+no-transfer address log (Ticks count) h = (refl, refl)
+no-transfer address log (Sample fan count) h = (refl, refl)
+no-transfer address log (Wish fan drive) h = (refl, refl)
+no-transfer address log (Transfer reads to place n) h = absurd (miss noTransferTags 4 tt h)
+
+module _ (log : List ℕ) (event : Event) (good : rangeNumber log event ≡ 0) where
+  in-range-as : (other : Event) → event ≡ other → inRange log other ≡ true
+  in-range-as other e = subst (λ (x : Event). inRange log x ≡ true) e (in-range log event good)
+
+  from-fan : (fan : ℕ) → fanInRange fan ≡ true → (1 ≤ fan) × (fan ≤ 5)
+  from-fan fan e = (leb-true 1 fan (and-left (leb 1 fan) (leb fan 5) e), leb-true fan 5 (and-right (leb 1 fan) (leb fan 5) e))
+
+  -- the fan of a sample or a wish
+  pub sample-fan : (fan count : ℕ) → event ≡ Sample fan count → (1 ≤ fan) × (fan ≤ 5)
+  sample-fan fan count e = from-fan fan (and-left (fanInRange fan) (leb count 8191) (in-range-as (Sample fan count) e))
+
+  pub wish-fan : (fan drive : ℕ) → event ≡ Wish fan drive → (1 ≤ fan) × (fan ≤ 5)
+  wish-fan fan drive e = from-fan fan (in-range-as (Wish fan drive) e)
+
+  -- the bytes of a transfer lie within the log, and a read has one
+  pub sent-within : (reads : Bool) (to place n : ℕ) → event ≡ Transfer reads to place n → place + n ≤ length log
+  sent-within reads to place n e = place-within log reads to place n (in-range-as (Transfer reads to place n) e)
+
+  pub clocked-within : (reads : Bool) (to place n : ℕ) → event ≡ Transfer reads to place n → reads ≡ true → place < length log
+  clocked-within reads to place n e r =
+      let rest : bytesInRange log place n && cond reads (readInRange log place n) true ≡ true =
+      and-right (addressInRange to) (bytesInRange log place n && cond reads (readInRange log place n) true) (in-range-as (Transfer reads to place n) e) in
+      let read : cond reads (readInRange log place n) true ≡ true = and-right (bytesInRange log place n) (cond reads (readInRange log place n) true) rest in
+      let one : n ≡ 1 = eqb-true n 1 (and-left (eqb n 1) (leb 1 (getD log place 0) && leb (getD log place 0) 32) (rw r at read)) in
+      omega (arith, sent-within reads to place n e)
+
+-- the number, way by way
+module _ (powered : Bool) (address : ℕ) (log : List ℕ) (event : Event) (room : ℕ) where
+  pub gives-range : (range : ℕ) → range ≡ rangeNumber log event → (range ≡ 0 → ⊥) → range ≡ stepNumber powered address log event room
+  unfolding stepNumber
+  gives-range range e h = rw (sym e, ne-eqb range 0 h)
+
+  module _ (e : rangeNumber log event ≡ 0) where
+    pub gives-6 : beforePower powered event ≡ true → 6 ≡ stepNumber powered address log event room
+    unfolding stepNumber
+    gives-6 f = rw (e, f)
+
+    module _ (f : beforePower powered event ≡ false) where
+      pub gives-7 : elsewhere address event ≡ true → 7 ≡ stepNumber powered address log event room
+      unfolding stepNumber
+      gives-7 g = rw (e, f, g)
+
+      module _ (g : elsewhere address event ≡ false) where
+        pub gives-8 : room < replyLength log event → 8 ≡ stepNumber powered address log event room
+        unfolding stepNumber
+        gives-8 h = rw (e, f, g, lt-ltb room (replyLength log event) h)
+
+        pub gives-0 : replyLength log event ≤ room → 0 ≡ stepNumber powered address log event room
+        unfolding stepNumber
+        gives-0 h = rw (e, f, g, le-ltb room (replyLength log event) h)

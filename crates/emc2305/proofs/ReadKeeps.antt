@@ -1,0 +1,29 @@
+-- What a read keeps, of any part of the chip that it is asked for.
+use mathlib.Core.Path.{_≡_, _∙_}
+use mathlib.Core.Bool.{false}
+use mathlib.Core.List.{map}
+use Prim.Native.Nat.{ℕ}
+use lib.Dec.{leb}
+use Rattle.laws.proofs.Repeat.{repeated-keeps}
+use Rattle.laws.proofs.Tests.{by-test}
+use Rattle.chip.specs.declared.Bit.{Bit}
+use Rattle.chip.specs.declared.Chip.{Chip}
+use Rattle.chip.specs.declared.Move.the-variants.{Clear}
+use Rattle.chip.specs.State.{withFans, withPointer, withExpired}
+use Rattle.chip.specs.Map.{registerOf}
+use Rattle.chip.specs.Fans.{moveOf}
+use Rattle.chip.specs.Registers.{clearedAt}
+use Rattle.chip.proofs.Moves.{cleared-keeps}
+use Rattle.emc2305.specs.Transfers.{passed, byteRead, readOut}
+
+module _ {B : Type 0} (v : Chip → B) where
+  pub passed-keeps : (n : ℕ) (c : Chip) → ((p : ℕ) → v (withPointer p c) ≡ v c) → v (passed n c) ≡ v c
+  unfolding passed
+  passed-keeps n c h = by-test (leb n 1) (λ t. rw t) (λ t. rw t (h _))
+
+  -- a read of n bytes
+  pub read-keeps : (n : ℕ) (c : Chip) → ((d : Chip) (p : ℕ) → v (withPointer p d) ≡ v d) → ((d : Chip) → v (withExpired false d) ≡ v d)
+      → ((d : Chip) (which : Bit) → v (withFans (map (moveOf (Clear which)) (d .fans)) d) ≡ v d) → v (readOut n c) ≡ v c
+  unfolding byteRead clearedAt
+  read-keeps n c p e f =
+      repeated-keeps v n (byteRead n) c (λ d. passed-keeps n (clearedAt (d .pointer) d) (p _) ∙ cleared-keeps v d (e d) (f d) (registerOf (d .pointer)))

@@ -1,0 +1,4 @@
+pub mod Transfers
+pub mod Step
+pub mod Traffic
+pub mod Promises

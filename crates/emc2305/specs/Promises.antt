@@ -1,0 +1,168 @@
+-- What is promised of a step. docs/CLAIMS.md names the file of each proof.
+use mathlib.Core.Path.{_≡_}
+use mathlib.Core.Logic.{_↔_}
+use mathlib.Core.Bool.{Bool, true, false, cond}
+use mathlib.Core.List.{List, [], _∷_, map}
+use Prim.Native.Nat.{ℕ, _+_, _-_, _%_, _≤_, _<_}
+use lib.Dec.{leb}
+use lib.ListN.{length, getD}
+use Rattle.laws.specs.Repeat.{repeated}
+use Rattle.laws.specs.Buffer.{bytesAt, laidOver}
+use Rattle.eventlog.specs.declared.Event.{Event}
+use Rattle.eventlog.specs.declared.Event.the-variants.{PowerOn, Ticks, Sample, Wish, Transfer}
+use Rattle.eventlog.specs.Range.{rangeNumber}
+use Rattle.fan.specs.declared.Fan.{Fan}
+use Rattle.fan.specs.State.{withStalled, withFailed}
+use Rattle.watchdog.specs.declared.Watch.the-variants.{PowerUp}
+use Rattle.watchdog.specs.Watch.{fed}
+use Rattle.chip.specs.declared.Chip.{Chip}
+use Rattle.chip.specs.Map.{registerOf}
+use Rattle.chip.specs.Fans.{fanAt}
+use Rattle.chip.specs.Registers.{unpowered, shownAt, isLocked, guarded, fedChip}
+use Rattle.emc2305.specs.Transfers.{sent, byteRead, replyOf, readOut}
+use Rattle.emc2305.specs.Step.{beforePower, elsewhere, replyLength, stepNumber, taken, replyTo, stepped, replyAfter}
+use Rattle.emc2305.specs.Traffic.{storesTo, isPowerOn}
+
+-- the chip after a step, with a reply buffer of so many bytes
+abbrev pub after : List ℕ → Event → ℕ → Chip → Chip
+after log event room c = stepped c log event room .chip
+
+-- each number exactly when document 01 says, from the powered flag, the address, the log, the event and the buffer's length alone
+abbrev pub StepNumbers : Type 0
+StepNumbers =
+    (powered : Bool) (address : ℕ) (log : List ℕ) (event : Event) (room : ℕ)
+    → (stepNumber powered address log event room ≡ 5 ↔ rangeNumber log event ≡ 5)
+    × (stepNumber powered address log event room ≡ 6 ↔ (rangeNumber log event ≡ 0) × (beforePower powered event ≡ true))
+    × (stepNumber powered address log event room ≡ 7
+    ↔ (rangeNumber log event ≡ 0) × (beforePower powered event ≡ false) × (elsewhere address event ≡ true))
+    × (stepNumber powered address log event room ≡ 8
+    ↔ (rangeNumber log event ≡ 0) × (beforePower powered event ≡ false) × (elsewhere address event ≡ false) × (room < replyLength log event))
+    × (stepNumber powered address log event room ≡ 0
+    ↔ (rangeNumber log event ≡ 0) × (beforePower powered event ≡ false) × (elsewhere address event ≡ false) × (replyLength log event ≤ room))
+
+-- a step answers that number, of its chip's flag and address
+abbrev pub Numbered : Type 0
+Numbered =
+    (c : Chip) (log : List ℕ) (event : Event) (room : ℕ)
+    → stepped c log event room .number ≡ stepNumber (c .powered) (c .address) log event room
+
+-- a refused step changes nothing
+abbrev pub Refused : Type 0
+Refused =
+    (c : Chip) (log : List ℕ) (event : Event) (reply : List ℕ) → (stepped c log event (length reply) .number ≡ 0 → ⊥)
+    → (after log event (length reply) c ≡ c) × (stepped c log event (length reply) .laid ≡ 0) × (replyAfter c log event reply ≡ reply)
+
+-- a step that is taken: the chip, and the reply laid at the front of the buffer, which keeps its length
+abbrev pub TakenStep : Type 0
+TakenStep =
+    (c : Chip) (log : List ℕ) (event : Event) (reply : List ℕ) → stepped c log event (length reply) .number ≡ 0
+    → (after log event (length reply) c ≡ taken log event c)
+    × (stepped c log event (length reply) .laid ≡ length (replyTo log event c))
+    × (replyAfter c log event reply ≡ laidOver (replyTo log event c) reply)
+    × (length (replyAfter c log event reply) ≡ length reply)
+
+-- every step leaves a chip of five fans
+abbrev pub FiveFans : Type 0
+FiveFans =
+    (c : Chip) (log : List ℕ) (event : Event) (room : ℕ) → length (c .fans) ≡ 5
+    → length (after log event room c .fans) ≡ 5
+
+-- a fan but for its bits of 25h and 26h, which a read of these clears for every fan
+abbrev pub butStatus : Fan → Fan
+butStatus f = withStalled false (withFailed false f)
+
+-- a sample or a wish leaves every other fan as it was; a transfer every fan to whose registers it stores nothing, but for what a read clears
+abbrev pub OtherFans : Type 0
+OtherFans =
+    (c : Chip) (log : List ℕ) (room i : ℕ)
+    → ((fan count : ℕ) → (i ≡ fan - 1 → ⊥) → fanAt (after log (Sample fan count) room c .fans) i ≡ fanAt (c .fans) i)
+    × ((fan drive : ℕ) → (i ≡ fan - 1 → ⊥) → fanAt (after log (Wish fan drive) room c .fans) i ≡ fanAt (c .fans) i)
+    × ((to place n : ℕ) → storesTo i log (Transfer false to place n) c ≡ false
+    → fanAt (after log (Transfer false to place n) room c .fans) i ≡ fanAt (c .fans) i)
+    × ((to place n : ℕ) → butStatus (fanAt (after log (Transfer true to place n) room c .fans) i) ≡ butStatus (fanAt (c .fans) i))
+
+-- locked: no event but a power-on changes EFh or a locked register, and it stays locked
+abbrev pub Locked : Type 0
+Locked =
+    (c : Chip) (log : List ℕ) (event : Event) (room : ℕ) → isLocked c ≡ true → isPowerOn event ≡ false
+    → (isLocked (after log event room c) ≡ true)
+    × ((address : ℕ) → guarded (registerOf address) ≡ true → shownAt (after log event room c) address ≡ shownAt c address)
+
+-- where the pointer stands after k of n data bytes
+abbrev pub pointerAfter : ℕ → ℕ → ℕ → ℕ
+pointerAfter n k pointer = cond (leb n 1) pointer ((pointer + k) % 256)
+
+-- the pointer after any transfer: as it was, where there are no bytes; else by the first byte and the count of data bytes
+abbrev pub Pointer : Type 0
+Pointer =
+    (c : Chip)
+    → (sent [] c ≡ c)
+    × ((pointer : ℕ) (rest : List ℕ) → pointer < 256 → sent (pointer ∷ rest) c .pointer ≡ pointerAfter (length rest) (length rest) pointer)
+    × ((n : ℕ) → c .pointer < 256 → readOut n c .pointer ≡ pointerAfter n n (c .pointer))
+
+-- a read of n bytes: as many in the reply, each that of the register in turn, in the state that the ones before it left
+abbrev pub ReplyBytes : Type 0
+ReplyBytes =
+    (c : Chip) (n : ℕ) → c .pointer < 256
+    → (length (replyOf n c n) ≡ n)
+    × ((k : ℕ) → k < n → getD (replyOf n c n) k 0 ≡ shownAt (repeated k (byteRead n) c) (pointerAfter n k (c .pointer)))
+
+-- n ticks are n times one tick
+abbrev pub TickByTick : Type 0
+TickByTick = (c : Chip) (log : List ℕ) (m n : ℕ) → taken log (Ticks (m + n)) c ≡ taken log (Ticks n) (taken log (Ticks m) c)
+
+-- the watch after each event that is taken but ticks: a power-on starts it; a sample or a wish leaves it; a transfer feeds it, which does nothing in
+-- the power-up watch, and a write then acts on it byte by byte
+abbrev pub WatchAfter : Type 0
+WatchAfter =
+    (c : Chip) (log : List ℕ)
+    → ((address : ℕ) → taken log (PowerOn address) c .watch ≡ PowerUp 0)
+    × ((fan count : ℕ) → taken log (Sample fan count) c .watch ≡ c .watch)
+    × ((fan drive : ℕ) → taken log (Wish fan drive) c .watch ≡ c .watch)
+    × ((to place n : ℕ) → taken log (Transfer true to place n) c .watch ≡ fed (c .watch))
+    × ((to place n : ℕ) → taken log (Transfer false to place n) c ≡ sent (bytesAt log place n) (fedChip c))
+
+-- the chip after events in turn, each with no room for a reply
+abbrev pub afterAll : List ℕ → List Event → Chip
+afterAll log [] = unpowered
+afterAll log (event ∷ before) = after log event 0 (afterAll log before)
+
+-- the bytes of the writes of the examples: EFh 01h, 37h 20h, 30h 80h
+abbrev pub exampleLog : List ℕ
+exampleLog = 0xEF ∷ 0x01 ∷ 0x37 ∷ 0x20 ∷ 0x30 ∷ 0x80 ∷ []
+
+-- n idle ticks after power-on; the events of a row stand with the last first
+abbrev pub idle : ℕ → List Event
+idle n = Ticks n ∷ PowerOn 0x2C ∷ []
+
+-- the lock set
+abbrev pub locking : List Event
+locking = Transfer false 0x2C 0 2 ∷ PowerOn 0x2C ∷ []
+
+-- then 20h written to 37h
+abbrev pub locked37 : List Event
+locked37 = Transfer false 0x2C 2 2 ∷ locking
+
+-- or 80h written to 30h, and the 40 ticks of the spin-up that it starts
+abbrev pub locked30 : List Event
+locked30 = Ticks 40 ∷ Transfer false 0x2C 4 2 ∷ locking
+
+-- document 01's examples of the chip, marked P: the events, a register, and what it shows after them
+-- 319 idle ticks after power-on: nothing; 320: FFh. Locked, write 37h: unchanged; write 30h: stored, and the drive after its spin-up
+abbrev pub examples : List (List Event × (ℕ × ℕ))
+examples =
+    (idle 319, (0x30, 0x00))
+    ∷ (idle 319, (0x24, 0x00))
+    ∷ (idle 320, (0x30, 0xFF))
+    ∷ (idle 320, (0x70, 0xFF))
+    ∷ (idle 320, (0x24, 0x80))
+    ∷ (locking, (0xEF, 0x01))
+    ∷ (locked37, (0x37, 0x10))
+    ∷ (locked30, (0x30, 0x80))
+    ∷ []
+
+-- each row's register shows what the row says
+abbrev pub Examples : Type 0
+Examples =
+    map (λ (row : List Event × (ℕ × ℕ)). shownAt (afterAll exampleLog (row .0)) (row .1 .0)) examples
+    ≡ map (λ (row : List Event × (ℕ × ℕ)). row .1 .1) examples

@@ -1,0 +1,78 @@
+-- A step: the number, the reply, the chip.
+use mathlib.Core.Bool.{Bool, true, false, cond, not}
+use mathlib.Core.List.{List}
+use Prim.Native.Nat.{ℕ, _-_}
+use lib.Dec.{ltb, eqb}
+use lib.ListN.{length, getD}
+use Rattle.laws.specs.Buffer.{bytesAt, laidOver}
+use Rattle.laws.specs.Repeat.{repeated}
+use Rattle.eventlog.specs.declared.Event.{Event}
+use Rattle.eventlog.specs.declared.Event.the-variants.{PowerOn, Ticks, Sample, Wish, Transfer}
+use Rattle.eventlog.specs.Range.{rangeNumber}
+use Rattle.fan.specs.Drive.{wished}
+use Rattle.fan.specs.Tach.{sampled}
+use Rattle.watchdog.specs.Watch.{inPowerUp}
+use Rattle.chip.specs.declared.Chip.{Chip}
+use Rattle.chip.specs.Registers.{atDefaults, onFan, fedChip}
+use Rattle.chip.specs.Ticks.{chipTicked}
+use Rattle.emc2305.specs.declared.Answer.{Answer}
+use Rattle.emc2305.specs.Transfers.{sent, replyOf, readOut}
+
+-- event other than power-on before any power-on
+abbrev pub beforePower : Bool → Event → Bool
+beforePower powered (PowerOn address) = false
+beforePower powered (Ticks count) = not powered
+beforePower powered (Sample fan count) = not powered
+beforePower powered (Wish fan drive) = not powered
+beforePower powered (Transfer reads to place n) = not powered
+
+-- transfer to another address
+abbrev pub elsewhere : ℕ → Event → Bool
+elsewhere address (PowerOn to) = false
+elsewhere address (Ticks count) = false
+elsewhere address (Sample fan count) = false
+elsewhere address (Wish fan drive) = false
+elsewhere address (Transfer reads to place n) = not (eqb to address)
+
+-- how many bytes the reply has: of a read, as many as the host clocks
+abbrev pub replyLength : List ℕ → Event → ℕ
+replyLength log (PowerOn address) = 0
+replyLength log (Ticks count) = 0
+replyLength log (Sample fan count) = 0
+replyLength log (Wish fan drive) = 0
+replyLength log (Transfer reads to place n) = cond reads (getD log place 0) 0
+
+-- a step's number: 5, then 6, 7, 8
+unfoldable pub stepNumber : Bool → ℕ → List ℕ → Event → ℕ → ℕ
+stepNumber powered address log event room =
+    cond (not (eqb (rangeNumber log event) 0)) (rangeNumber log event)
+    (cond (beforePower powered event) 6
+    (cond (elsewhere address event) 7
+    (cond (ltb room (replyLength log event)) 8
+    0)))
+
+-- the chip after an event that is taken
+unfoldable pub taken : List ℕ → Event → Chip → Chip
+taken log (PowerOn address) c = atDefaults true address
+taken log (Ticks count) c = repeated count chipTicked c
+taken log (Sample fan count) c = onFan (fan - 1) (sampled count (inPowerUp (c .watch))) c
+taken log (Wish fan drive) c = onFan (fan - 1) (wished drive) c
+taken log (Transfer reads to place n) c =
+    cond reads (readOut (getD log place 0) (fedChip c)) (sent (bytesAt log place n) (fedChip c))
+
+-- the reply bytes of an event that is taken
+unfoldable pub replyTo : List ℕ → Event → Chip → List ℕ
+replyTo log event c = replyOf (replyLength log event) (fedChip c) (replyLength log event)
+
+-- a step: a refusal leaves the chip as it was and lays nothing
+unfoldable pub stepped : Chip → List ℕ → Event → ℕ → Answer
+stepped c log event room =
+    let number : ℕ = stepNumber (c .powered) (c .address) log event room in
+    cond (eqb number 0)
+    (record { number = 0; laid = replyLength log event; chip = taken log event c })
+    (record { number = number; laid = 0; chip = c })
+
+-- the lent buffer after a step; bytes past the reply stay
+unfoldable pub replyAfter : Chip → List ℕ → Event → List ℕ → List ℕ
+replyAfter c log event reply =
+    cond (eqb (stepNumber (c .powered) (c .address) log event (length reply)) 0) (laidOver (replyTo log event c) reply) reply

@@ -1,0 +1,18 @@
+// The EMC2305 on its bus: transfers, and the step that takes any event (document 01: 'Registers' and 'Numbers given back').
+mod steps;
+mod transfers;
+
+use chip::Chip;
+pub use steps::step;
+
+// The numbers of a step that the log does not give.
+pub const NO_POWER: u8 = 6;
+
+pub const ELSEWHERE: u8 = 7;
+
+// What a step gives: the number, how many reply bytes were laid, and the chip.
+pub struct Answer {
+    pub number: u8,
+    pub laid: usize,
+    pub chip: Chip,
+}
