@@ -20,7 +20,7 @@ impl Chip {
         }
     }
 
-    // A loop wish for fan i + 1.
+    // A loop wish for fan i + 1, likewise.
     pub fn wish(self, i: usize, drive: u8) -> Chip
         ensures { λ r. ⌜ r ≡ onFan i (wished drive) self ⌝ }
     {

@@ -16,8 +16,8 @@ use Rattle.chip.specs.Fans.{bitsOf}
 use Rattle.chip.specs.Registers.{atDefaults, fanStored, shownAt, storesAt, writtenAt, fedChip}
 use Rattle.chip.specs.Ticks.{allFired, fansTicked, chipTicked}
 use Rattle.emc2305.specs.Transfers.{passed, byteWritten, inTurn, sent}
-use Rattle.emc2305.specs.Step.{stepNumber, taken, stepped}
-use Rattle.emc2305.specs.Promises.{TickByTick, WatchAfter, Examples}
+use Rattle.emc2305.specs.Step.{stepNumber, taken, replyTo, stepped}
+use Rattle.emc2305.specs.Promises.{TickByTick, WatchAfter, TakenTransfer, Examples}
 use Rattle.emc2305.proofs.ReadKeeps.{read-keeps}
 
 pub tick-by-tick : TickByTick
@@ -34,8 +34,11 @@ watch-after c log = (
   λ fan count. refl,
   λ fan drive. refl,
   λ to place n. read-keeps watch _ (fedChip c) (λ d p. refl) (λ d. refl) (λ d which. refl),
-  λ to place n. refl,
 )
+
+pub taken-transfer : TakenTransfer
+unfolding taken replyTo
+taken-transfer c log to place n = (refl, refl, refl)
 
 pub examples-hold : Examples
 unfolding repeated rangeNumber locked shown stores powerOn goal underRamp started tooSlow spinFailed spinOver spinTick ticked wishTaken clockSet settled written fired registerOf bitsOf atDefaults fanStored shownAt storesAt writtenAt passed byteWritten inTurn sent allFired fansTicked chipTicked stepNumber taken stepped

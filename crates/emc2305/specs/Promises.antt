@@ -111,8 +111,15 @@ ReplyBytes =
 abbrev pub TickByTick : Type 0
 TickByTick = (c : Chip) (log : List ℕ) (m n : ℕ) → taken log (Ticks (m + n)) c ≡ taken log (Ticks n) (taken log (Ticks m) c)
 
--- the watch after each event that is taken but ticks: a power-on starts it; a sample or a wish leaves it; a transfer feeds it, which does nothing in
--- the power-up watch, and a write then acts on it byte by byte
+-- a transfer that is taken feeds the watch, which does nothing in the power-up watch; then its bytes are sent, or read out and laid as the reply
+abbrev pub TakenTransfer : Type 0
+TakenTransfer =
+    (c : Chip) (log : List ℕ) (to place n : ℕ)
+    → (taken log (Transfer false to place n) c ≡ sent (bytesAt log place n) (fedChip c))
+    × (taken log (Transfer true to place n) c ≡ readOut (getD log place 0) (fedChip c))
+    × (replyTo log (Transfer true to place n) c ≡ replyOf (getD log place 0) (fedChip c) (getD log place 0))
+
+-- the watch after each event that is taken but ticks and writes: a power-on starts it; a sample or a wish leaves it; a read feeds it
 abbrev pub WatchAfter : Type 0
 WatchAfter =
     (c : Chip) (log : List ℕ)
@@ -120,7 +127,6 @@ WatchAfter =
     × ((fan count : ℕ) → taken log (Sample fan count) c .watch ≡ c .watch)
     × ((fan drive : ℕ) → taken log (Wish fan drive) c .watch ≡ c .watch)
     × ((to place n : ℕ) → taken log (Transfer true to place n) c .watch ≡ fed (c .watch))
-    × ((to place n : ℕ) → taken log (Transfer false to place n) c ≡ sent (bytesAt log place n) (fedChip c))
 
 -- the chip after events in turn, each with no room for a reply
 abbrev pub afterAll : List ℕ → List Event → Chip
@@ -148,12 +154,20 @@ abbrev pub locked30 : List Event
 locked30 = Ticks 40 ∷ Transfer false 0x2C 4 2 ∷ locking
 
 -- document 01's examples of the chip, marked P: the events, a register, and what it shows after them
--- 319 idle ticks after power-on: nothing; 320: FFh. Locked, write 37h: unchanged; write 30h: stored, and the drive after its spin-up
+-- 319 idle ticks after power-on: nothing, on no fan and in no status; 320: FFh, on each fan, and WATCH
+-- locked, write 37h: unchanged; write 30h: stored, and the drive after its spin-up
 abbrev pub examples : List (List Event × (ℕ × ℕ))
 examples =
     (idle 319, (0x30, 0x00))
+    ∷ (idle 319, (0x40, 0x00))
+    ∷ (idle 319, (0x50, 0x00))
+    ∷ (idle 319, (0x60, 0x00))
+    ∷ (idle 319, (0x70, 0x00))
     ∷ (idle 319, (0x24, 0x00))
     ∷ (idle 320, (0x30, 0xFF))
+    ∷ (idle 320, (0x40, 0xFF))
+    ∷ (idle 320, (0x50, 0xFF))
+    ∷ (idle 320, (0x60, 0xFF))
     ∷ (idle 320, (0x70, 0xFF))
     ∷ (idle 320, (0x24, 0x80))
     ∷ (locking, (0xEF, 0x01))
