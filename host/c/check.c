@@ -1,0 +1,234 @@
+/* Calls the library for tests/library_test.py: a case a line on standard input, its answer a line on standard output.
+ *
+ *   run ROOM LOG                      number place records reply_bytes BUFFER
+ *   read PLACE LOG                    number kind unit value bytes_place bytes_length next
+ *   write KIND UNIT VALUE ROOM BYTES  number written BUFFER
+ *
+ * LOG, BYTES and BUFFER are in hex, and "." is none. As LOG, BYTES or ROOM, "-" is none too, by a pointer that is NULL.
+ * Behind an answer stands what should not be: a plain run that differs from emc2305_run, bytes changed before a buffer.
+ *
+ * The library is not built with a sanitizer. So what is lent to it ends where a page begins that cannot be touched, and
+ * what it may only read cannot be written.
+ */
+#define _DEFAULT_SOURCE /* getline, mmap, MAP_ANONYMOUS */
+#include <inttypes.h>
+#include <stdbool.h>
+#include <stdio.h>
+#include <stdlib.h>
+#include <string.h>
+#include <sys/mman.h>
+#include <unistd.h>
+
+#include "cobblehard.h"
+
+enum { FILL = 0xEE, PRESET_8 = 0xA5, PRESET_16 = 0xA5A5 };
+static const uint64_t PRESET_64 = 0xA5A5A5A5A5A5A5A5;
+
+/* `length` bytes at the end of `size`, which stand before a page that cannot be touched. */
+struct lent {
+    uint8_t *bytes;
+    size_t length;
+    uint8_t *pages;
+    size_t size;
+};
+
+static void fail(const char *what)
+{
+    fflush(stdout);
+    fprintf(stderr, "check: %s\n", what);
+    exit(EXIT_FAILURE);
+}
+
+static uint64_t parse(const char *number)
+{
+    char *end;
+    uint64_t parsed = strtoull(number, &end, 10);
+
+    if (end == number || *end != '\0')
+        fail("not a number");
+    return parsed;
+}
+
+static size_t page_size(void)
+{
+    return (size_t)sysconf(_SC_PAGESIZE);
+}
+
+static struct lent lend(size_t length)
+{
+    size_t page = page_size();
+    size_t size = length / page * page + page;
+    uint8_t *pages = mmap(NULL, size + page, PROT_READ | PROT_WRITE, MAP_PRIVATE | MAP_ANONYMOUS, -1, 0);
+
+    if (pages == MAP_FAILED || mprotect(pages + size, page, PROT_NONE) != 0)
+        fail("no memory");
+    memset(pages, FILL, size);
+    return (struct lent){pages + size - length, length, pages, size};
+}
+
+static struct lent lend_null(void)
+{
+    return (struct lent){NULL, 0, NULL, 0};
+}
+
+static struct lent lend_room(const char *room)
+{
+    return strcmp(room, "-") == 0 ? lend_null() : lend(parse(room));
+}
+
+static uint8_t digit(char c)
+{
+    const char *digits = "0123456789abcdef";
+    const char *found = c == '\0' ? NULL : strchr(digits, c);
+
+    if (found == NULL)
+        fail("not a hex digit");
+    return (uint8_t)(found - digits);
+}
+
+/* Bytes that can only be read. */
+static struct lent lend_bytes(const char *hex)
+{
+    size_t length = strcmp(hex, ".") == 0 ? 0 : strlen(hex) / 2;
+    struct lent lent;
+
+    if (strcmp(hex, "-") == 0)
+        return lend_null();
+    lent = lend(length);
+    for (size_t i = 0; i < length; i++)
+        lent.bytes[i] = (uint8_t)(digit(hex[2 * i]) * 16 + digit(hex[2 * i + 1]));
+    if (mprotect(lent.pages, lent.size, PROT_READ) != 0)
+        fail("no protection");
+    return lent;
+}
+
+/* Frees what was lent, and says where the bytes before it were changed. */
+static void take_back(struct lent lent)
+{
+    if (lent.pages == NULL)
+        return;
+    for (const uint8_t *byte = lent.pages; byte < lent.bytes; byte++) {
+        if (*byte != FILL) {
+            printf(" changed %td bytes before the buffer", lent.bytes - byte);
+            break;
+        }
+    }
+    if (munmap(lent.pages, lent.size + page_size()) != 0)
+        fail("not freed");
+}
+
+static void print_bytes(struct lent lent)
+{
+    putchar(' ');
+    for (size_t i = 0; i < lent.length; i++)
+        printf("%02x", lent.bytes[i]);
+    if (lent.length == 0)
+        putchar('.');
+}
+
+static bool same_bytes(struct lent a, struct lent b)
+{
+    return a.length == b.length && (a.length == 0 || memcmp(a.bytes, b.bytes, a.length) == 0);
+}
+
+static uint64_t run_number(const uint8_t *log, size_t log_length, uint8_t *replies, size_t replies_length)
+{
+    return emc2305_run_number(log, log_length, replies, replies_length);
+}
+
+/* The runs that return one number, in the order of the whole run's numbers. */
+static const struct plain {
+    const char *name;
+    uint64_t (*run)(const uint8_t *log, size_t log_length, uint8_t *replies, size_t replies_length);
+} PLAIN[] = {
+    {"emc2305_run_number", run_number},
+    {"emc2305_run_place", emc2305_run_place},
+    {"emc2305_run_records", emc2305_run_records},
+    {"emc2305_run_reply_bytes", emc2305_run_reply_bytes},
+};
+
+/* Says where a plain run on a fresh buffer does not give what the whole run gave. */
+static void compare_plain(struct plain plain, const char *room, struct lent log, uint64_t answer, struct lent replies)
+{
+    struct lent fresh = lend_room(room);
+    uint64_t given = plain.run(log.bytes, log.length, fresh.bytes, fresh.length);
+
+    if (given != answer || !same_bytes(fresh, replies)) {
+        printf(" but %s %" PRIu64, plain.name, given);
+        print_bytes(fresh);
+    }
+    take_back(fresh);
+}
+
+static void check_run(const char *room, const char *hex)
+{
+    struct lent log = lend_bytes(hex);
+    struct lent replies = lend_room(room);
+    uint64_t place = PRESET_64, records = PRESET_64, reply_bytes = PRESET_64;
+    uint8_t number = emc2305_run(log.bytes, log.length, replies.bytes, replies.length, &place, &records, &reply_bytes);
+    const uint64_t answers[] = {number, place, records, reply_bytes};
+
+    printf("%u %" PRIu64 " %" PRIu64 " %" PRIu64, number, place, records, reply_bytes);
+    print_bytes(replies);
+    for (size_t i = 0; i < sizeof PLAIN / sizeof PLAIN[0]; i++)
+        compare_plain(PLAIN[i], room, log, answers[i], replies);
+    take_back(replies);
+    take_back(log);
+}
+
+static void check_read(const char *place, const char *hex)
+{
+    struct lent log = lend_bytes(hex);
+    uint8_t kind = PRESET_8, unit = PRESET_8;
+    uint16_t value = PRESET_16;
+    uint64_t bytes_place = PRESET_64, bytes_length = PRESET_64, next = PRESET_64;
+    uint8_t number = eventlog_read(log.bytes, log.length, parse(place), &kind, &unit, &value, &bytes_place,
+                                   &bytes_length, &next);
+
+    printf("%u %u %u %u %" PRIu64 " %" PRIu64 " %" PRIu64, number, kind, unit, value, bytes_place, bytes_length, next);
+    take_back(log);
+}
+
+static void check_write(const char *kind, const char *unit, const char *value, const char *room, const char *hex)
+{
+    struct lent bytes = lend_bytes(hex);
+    struct lent out = lend_room(room);
+    uint64_t written = PRESET_64;
+    uint8_t number = eventlog_write((uint8_t)parse(kind), (uint8_t)parse(unit), (uint16_t)parse(value), bytes.bytes,
+                                    bytes.length, out.bytes, out.length, &written);
+
+    printf("%u %" PRIu64, number, written);
+    print_bytes(out);
+    take_back(out);
+    take_back(bytes);
+}
+
+static void check(char *line)
+{
+    char *words[6];
+    size_t count = 0;
+
+    for (char *word = strtok(line, " \n"); word != NULL && count < 6; word = strtok(NULL, " \n"))
+        words[count++] = word;
+    if (count == 3 && strcmp(words[0], "run") == 0)
+        check_run(words[1], words[2]);
+    else if (count == 3 && strcmp(words[0], "read") == 0)
+        check_read(words[1], words[2]);
+    else if (count == 6 && strcmp(words[0], "write") == 0)
+        check_write(words[1], words[2], words[3], words[4], words[5]);
+    else
+        fail("not a case");
+    putchar('\n');
+}
+
+int main(void)
+{
+    char *line = NULL;
+    size_t room = 0;
+
+    setvbuf(stdout, NULL, _IOLBF, 0); /* a fault loses no answer before it */
+    while (getline(&line, &room, stdin) != -1)
+        check(line);
+    free(line);
+    return EXIT_SUCCESS;
+}

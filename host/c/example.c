@@ -1,0 +1,153 @@
+/* Shows how to use the library: lists the records of a log, then runs the chip over it and prints what the run gave.
+ *
+ *   example [FILE]
+ *
+ * Without a file it takes the log below. It fails where the file cannot be read or the run is stopped by a refusal.
+ */
+#include <inttypes.h>
+#include <stdbool.h>
+#include <stdio.h>
+#include <stdlib.h>
+
+#include "cobblehard.h"
+
+static const uint8_t EXAMPLE[] = {
+    0x9C, 0x46, 0x01, 0x01, 0x2C,             /* power-on, at the bus address 2Ch */
+    0x9C, 0x46, 0x05, 0x03, 0x58, 0x30, 0x80, /* write 80h to register 30h, the Setting of fan 1 */
+    0x9C, 0x46, 0x05, 0x02, 0x59, 0x01,       /* read one byte: the fan spins up, its drive is FFh */
+};
+
+/* What the numbers mean, 0 to 8. */
+static const char *const MEANING[] = {
+    "taken",
+    "the log ends inside a record",
+    "a mark byte is wrong",
+    "unknown kind",
+    "length not allowed for the kind",
+    "a field out of range",
+    "event before any power-on",
+    "transfer to another address",
+    "buffer too short",
+};
+
+static void print_bytes(const uint8_t *bytes, uint64_t length)
+{
+    for (uint64_t i = 0; i < length; i++)
+        printf(" %02X", bytes[i]);
+    putchar('\n');
+}
+
+static void print_event(uint8_t kind, uint8_t unit, uint16_t value, const uint8_t *bytes, uint64_t length)
+{
+    switch (kind) {
+    case 1:
+        printf("power-on, address %02X\n", unit);
+        break;
+    case 2:
+        printf("%u ticks\n", value);
+        break;
+    case 3:
+        printf("tach sample of fan %u, count %u\n", unit, value);
+        break;
+    case 4:
+        printf("loop wish for fan %u, drive %u\n", unit, value);
+        break;
+    default:
+        if (value == 1) {
+            printf("read from address %02X, count %u\n", unit, bytes[0]);
+        } else {
+            printf("write to address %02X:", unit);
+            print_bytes(bytes, length);
+        }
+    }
+}
+
+/* Walks the log record by record. A refusal is the end of the walk: nothing tells where a next record would begin. */
+static void list_records(const uint8_t *log, size_t length)
+{
+    for (uint64_t place = 0;;) {
+        uint8_t kind, unit;
+        uint16_t value;
+        uint64_t bytes_place, bytes_length, next;
+        uint8_t number = eventlog_read(log, length, place, &kind, &unit, &value, &bytes_place, &bytes_length, &next);
+
+        printf("%" PRIu64 ": ", place);
+        if (number != 0) { /* the six numbers were not set */
+            printf("refused with %u, %s\n", number, MEANING[number]);
+            return;
+        }
+        if (kind == 0) {
+            printf("end of the log\n");
+            return;
+        }
+        print_event(kind, unit, value, log + bytes_place, bytes_length);
+        place = next;
+    }
+}
+
+/* Whether the run came to the end of the log. */
+static bool run_chip(const uint8_t *log, size_t length)
+{
+    /* The record of a read has six bytes and its reply at most 32, so this is room for all replies. */
+    size_t room = length / 6 * 32;
+    uint8_t *replies = malloc(room);
+    uint64_t place, records, reply_bytes;
+    uint8_t number;
+
+    if (replies == NULL && room > 0) {
+        fprintf(stderr, "example: no memory for the replies\n");
+        return false;
+    }
+    number = emc2305_run(log, length, replies, room, &place, &records, &reply_bytes);
+    printf("number %u: %s\n", number, MEANING[number]);
+    printf("place %" PRIu64 "\n", place);
+    printf("records walked %" PRIu64 "\n", records);
+    printf("reply bytes %" PRIu64 ":", reply_bytes);
+    print_bytes(replies, reply_bytes); /* those before a stop are good too */
+    free(replies);
+    return number == 0;
+}
+
+/* The whole file, which the caller frees, or NULL. */
+static uint8_t *read_file(const char *name, size_t *length)
+{
+    FILE *file = fopen(name, "rb");
+    uint8_t *bytes = NULL;
+    size_t room = 0;
+
+    *length = 0;
+    while (file != NULL && !feof(file) && !ferror(file)) {
+        uint8_t *more = realloc(bytes, room += 65536);
+        if (more == NULL)
+            break;
+        bytes = more;
+        *length += fread(bytes + *length, 1, room - *length, file);
+    }
+    if (file == NULL || !feof(file)) {
+        fprintf(stderr, "example: cannot read %s\n", name);
+        free(bytes);
+        bytes = NULL;
+    }
+    if (file != NULL)
+        fclose(file);
+    return bytes;
+}
+
+int main(int count, char **arguments)
+{
+    const uint8_t *log = EXAMPLE;
+    size_t length = sizeof EXAMPLE;
+    uint8_t *bytes = NULL;
+    bool ended;
+
+    if (count > 1) {
+        bytes = read_file(arguments[1], &length);
+        if (bytes == NULL)
+            return EXIT_FAILURE;
+        log = bytes;
+    }
+    list_records(log, length);
+    ended = run_chip(log, length);
+    free(bytes);
+    return ended ? EXIT_SUCCESS : EXIT_FAILURE;
+}
