@@ -12,7 +12,7 @@
  *   2  a present mark byte is wrong
  *   3  unknown kind
  *   4  the length byte is not allowed for the kind
- *   5  a field out of range, or a read transfer whose record has another length than 2
+ *   5  a field out of range, or a read transfer whose length byte is not 2
  *   6  event other than power-on before any power-on
  *   7  transfer to another address
  *   8  lent buffer too short for the reply or record
