@@ -33,7 +33,7 @@ use Rattle.emc2305.proofs.Numbers.{after-keeps}
 abbrev count : Chip → ℕ
 count c = length (c .fans)
 
-write-counts : (n byte : ℕ) (c : Chip) → count (byteWritten n byte c) ≡ count c
+pub write-counts : (n byte : ℕ) (c : Chip) → count (byteWritten n byte c) ≡ count c
 unfolding byteWritten fanStored
 write-counts n byte c =
     passed-keeps count n (writtenAt (c .pointer) byte c) (λ p. refl)

@@ -2,7 +2,7 @@
 use mathlib.Core.Path.{_≡_}
 use mathlib.Core.Logic.{_↔_}
 use mathlib.Core.Bool.{Bool, true, false, cond}
-use mathlib.Core.List.{List, [], _∷_, map}
+use mathlib.Core.List.{List, [], _∷_}
 use Prim.Native.Nat.{ℕ, _+_, _-_, _%_, _≤_, _<_}
 use lib.Dec.{leb}
 use lib.ListN.{length, getD}
@@ -18,7 +18,7 @@ use Rattle.watchdog.specs.Watch.{fed}
 use Rattle.chip.specs.declared.Chip.{Chip}
 use Rattle.chip.specs.Map.{registerOf}
 use Rattle.chip.specs.Fans.{fanAt}
-use Rattle.chip.specs.Registers.{unpowered, shownAt, isLocked, guarded, fedChip}
+use Rattle.chip.specs.Registers.{shownAt, isLocked, guarded, fedChip}
 use Rattle.emc2305.specs.Transfers.{sent, byteRead, replyOf, readOut}
 use Rattle.emc2305.specs.Step.{beforePower, elsewhere, replyLength, stepNumber, taken, replyTo, stepped, replyAfter}
 use Rattle.emc2305.specs.Traffic.{storesTo, isPowerOn}
@@ -127,56 +127,3 @@ WatchAfter =
     × ((fan count : ℕ) → taken log (Sample fan count) c .watch ≡ c .watch)
     × ((fan drive : ℕ) → taken log (Wish fan drive) c .watch ≡ c .watch)
     × ((to place n : ℕ) → taken log (Transfer true to place n) c .watch ≡ fed (c .watch))
-
--- the chip after events in turn, each with no room for a reply
-abbrev pub afterAll : List ℕ → List Event → Chip
-afterAll log [] = unpowered
-afterAll log (event ∷ before) = after log event 0 (afterAll log before)
-
--- the bytes of the writes of the examples: EFh 01h, 37h 20h, 30h 80h
-abbrev pub exampleLog : List ℕ
-exampleLog = 0xEF ∷ 0x01 ∷ 0x37 ∷ 0x20 ∷ 0x30 ∷ 0x80 ∷ []
-
--- n idle ticks after power-on; the events of a row stand with the last first
-abbrev pub idle : ℕ → List Event
-idle n = Ticks n ∷ PowerOn 0x2C ∷ []
-
--- the lock set
-abbrev pub locking : List Event
-locking = Transfer false 0x2C 0 2 ∷ PowerOn 0x2C ∷ []
-
--- then 20h written to 37h
-abbrev pub locked37 : List Event
-locked37 = Transfer false 0x2C 2 2 ∷ locking
-
--- or 80h written to 30h, and the 40 ticks of the spin-up that it starts
-abbrev pub locked30 : List Event
-locked30 = Ticks 40 ∷ Transfer false 0x2C 4 2 ∷ locking
-
--- document 01's examples of the chip, marked P: the events, a register, and what it shows after them
--- 319 idle ticks after power-on: nothing, on no fan and in no status; 320: FFh, on each fan, and WATCH
--- locked, write 37h: unchanged; write 30h: stored, and the drive after its spin-up
-abbrev pub examples : List (List Event × (ℕ × ℕ))
-examples =
-    (idle 319, (0x30, 0x00))
-    ∷ (idle 319, (0x40, 0x00))
-    ∷ (idle 319, (0x50, 0x00))
-    ∷ (idle 319, (0x60, 0x00))
-    ∷ (idle 319, (0x70, 0x00))
-    ∷ (idle 319, (0x24, 0x00))
-    ∷ (idle 320, (0x30, 0xFF))
-    ∷ (idle 320, (0x40, 0xFF))
-    ∷ (idle 320, (0x50, 0xFF))
-    ∷ (idle 320, (0x60, 0xFF))
-    ∷ (idle 320, (0x70, 0xFF))
-    ∷ (idle 320, (0x24, 0x80))
-    ∷ (locking, (0xEF, 0x01))
-    ∷ (locked37, (0x37, 0x10))
-    ∷ (locked30, (0x30, 0x80))
-    ∷ []
-
--- each row's register shows what the row says
-abbrev pub Examples : Type 0
-Examples =
-    map (λ (row : List Event × (ℕ × ℕ)). shownAt (afterAll exampleLog (row .0)) (row .1 .0)) examples
-    ≡ map (λ (row : List Event × (ℕ × ℕ)). row .1 .1) examples

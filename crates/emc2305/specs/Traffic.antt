@@ -1,7 +1,8 @@
--- What a theorem says of an event: whether it stores to a fan's registers, whether it is a power-on.
+-- What a theorem says of an event: whether it stores to a fan's registers, which kind it is, how many ticks it holds.
 use mathlib.Core.Bool.{Bool, true, false, cond, _&&_, _||_}
 use mathlib.Core.List.{List, [], _∷_}
-use Prim.Native.Nat.{ℕ}
+use Prim.Native.Nat.{ℕ, _+_}
+use lib.Dec.{eqb}
 use lib.ListN.{length}
 use Rattle.laws.specs.Buffer.{bytesAt}
 use Rattle.eventlog.specs.declared.Event.{Event}
@@ -41,3 +42,27 @@ isPowerOn (Ticks count) = false
 isPowerOn (Sample fan count) = false
 isPowerOn (Wish fan drive) = false
 isPowerOn (Transfer reads to place n) = false
+
+-- it is a sample
+abbrev pub isSample : Event → Bool
+isSample (PowerOn address) = false
+isSample (Ticks count) = false
+isSample (Sample fan count) = true
+isSample (Wish fan drive) = false
+isSample (Transfer reads to place n) = false
+
+-- it is a wish for fan i + 1
+abbrev pub isWishFor : ℕ → Event → Bool
+isWishFor i (PowerOn address) = false
+isWishFor i (Ticks count) = false
+isWishFor i (Sample fan count) = false
+isWishFor i (Wish fan drive) = eqb fan (i + 1)
+isWishFor i (Transfer reads to place n) = false
+
+-- the ticks that it holds
+abbrev pub ticksOf : Event → ℕ
+ticksOf (PowerOn address) = 0
+ticksOf (Ticks count) = count
+ticksOf (Sample fan count) = 0
+ticksOf (Wish fan drive) = 0
+ticksOf (Transfer reads to place n) = 0

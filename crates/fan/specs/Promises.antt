@@ -1,16 +1,16 @@
 -- What is promised of a fan; the proofs are in proofs/.
-use Prim.Native.Nat.{ℕ, zero, suc, _+_, _-_, _*_, _/_, _%_, min, _≤_, _<_}
+use Prim.Native.Nat.{ℕ, _+_, _-_, _*_, _/_, _%_, min, _≤_, _<_}
 use mathlib.Core.Path.{_≡_}
 use mathlib.Core.Logic.{_↔_}
 use mathlib.Core.Bool.{Bool, true, false, cond, _||_}
-use mathlib.Core.List.{List, [], _∷_, _++_, map}
-use lib.ListN.{getD, set, replicate}
+use mathlib.Core.List.{List, [], _∷_}
+use lib.ListN.{getD, set}
 use Rattle.laws.specs.Repeat.{repeated}
 use Rattle.fan.specs.declared.Fan.{Fan}
 use Rattle.fan.specs.declared.SpinUp.{SpinUp}
 use Rattle.fan.specs.Tables.{periods, lengths, levels}
 use Rattle.fan.specs.State.{withDrive, withClock, withFailed}
-use Rattle.fan.specs.Registers.{bit, setting, configuration1, configuration2, spinUp, closedLoop, stores, powerOn}
+use Rattle.fan.specs.Registers.{bit, setting, configuration1, configuration2, spinUp, closedLoop, stores}
 use Rattle.fan.specs.Ramp.{distance, moved}
 use Rattle.fan.specs.Drive.{driverOff, goal, underRamp, step, period, wished}
 use Rattle.fan.specs.Spin.{spinLength, spinLevel, spinOn, inSpin, started, ended, tooSlow}
@@ -155,40 +155,3 @@ RegistersAfter =
 -- the reading registers of a count up to 8191 are the count times 8, their high byte c / 32
 abbrev pub ReadingRule : Type 0
 ReadingRule = (c : ℕ) → c ≤ 8191 → (256 * countHigh c + countLow c ≡ 8 * c) × (countHigh c ≡ c / 32)
-
--- the figures at 0 to n - 1
-abbrev pub firsts : ℕ → (ℕ → ℕ) → List ℕ
-firsts zero at = []
-firsts (suc n) at = firsts n at ++ (at n ∷ [])
-
--- the drives after 1 to n ramp updates
-abbrev pub updateRow : ℕ → ℕ → ℕ → ℕ → List ℕ
-updateRow n d g s = firsts n (λ (k : ℕ). afterUpdates (k + 1) d g s)
-
--- the default fan, Setting 80h at drive 0
-abbrev pub fanAt80 : Fan
-fanAt80 = written 0x0 0x80 powerOn
-
--- the same with Configuration 2 bit 6 set first
-abbrev pub rampedAt80 : Fan
-rampedAt80 = written 0x0 0x80 (written 0x3 0x68 powerOn)
-
--- the stall bit of the default fan at drive 128, no spin-up, no watch, after a sample
-abbrev pub stallBit : ℕ → ℕ
-stallBit c = cond (sampled c false (repeated 40 ticked fanAt80) .stalled) 1 0
-
--- document 01's examples of a fan, marked P: what the rules give, and document 01's figures
-abbrev pub examples : List (List ℕ × List ℕ)
-examples =
-    (updateRow 2 153 128 16, 137 ∷ 128 ∷ [])
-    ∷ (updateRow 5 255 0 63, 192 ∷ 129 ∷ 66 ∷ 3 ∷ 0 ∷ [])
-    ∷ (updateRow 2 153 128 0, 153 ∷ 153 ∷ [])
-    ∷ (updateRow 2 128 128 16, 128 ∷ 128 ∷ [])
-    ∷ (firsts 41 (driveAfter fanAt80), replicate 10 255 ++ (replicate 30 153 ++ (128 ∷ [])))
-    ∷ (map (driveAfter rampedAt80) (40 ∷ 72 ∷ 104 ∷ []), 153 ∷ 137 ∷ 128 ∷ [])
-    ∷ (map stallBit (7871 ∷ 7872 ∷ []), 0 ∷ 1 ∷ [])
-    ∷ []
-
--- each row's sides are the same
-abbrev pub Examples : Type 0
-Examples = map (λ (row : List ℕ × List ℕ). row .0) examples ≡ map (λ (row : List ℕ × List ℕ). row .1) examples

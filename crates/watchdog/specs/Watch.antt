@@ -5,6 +5,12 @@ use lib.Dec.{leb}
 use Rattle.watchdog.specs.declared.Watch.{Watch}
 use Rattle.watchdog.specs.declared.Watch.the-variants.{Off, PowerUp, Continuous}
 
+-- no watch runs
+abbrev pub isOff : Watch → Bool
+isOff Off = true
+isOff (PowerUp count) = false
+isOff (Continuous count) = false
+
 -- the power-up watch runs
 abbrev pub inPowerUp : Watch → Bool
 inPowerUp Off = false

@@ -1,0 +1,32 @@
+-- What is shown by computing alone: document 01's examples, and the sequence of specs/Busy.antt.
+use mathlib.Core.Path.{refl}
+use native.Mathlib.Omega.{arith}
+use Rattle.laws.specs.Repeat.{repeated}
+use Rattle.eventlog.specs.Range.{rangeNumber}
+use Rattle.eventlog.specs.Reading.{readAt}
+use Rattle.fan.specs.Registers.{locked, shown, stores, powerOn}
+use Rattle.fan.specs.Ramp.{moved}
+use Rattle.fan.specs.Drive.{goal, underRamp, wished}
+use Rattle.fan.specs.Spin.{spinDrive, started, tooSlow, spinFailed, spinOver, spinTick}
+use Rattle.fan.specs.Tick.{updated, counted, ticked}
+use Rattle.fan.specs.Stored.{wishTaken, clockSet, settled, written}
+use Rattle.fan.specs.Tach.{withReading, stall, sampled, fired}
+use Rattle.chip.specs.Map.{registerOf}
+use Rattle.chip.specs.Fans.{bitsOf}
+use Rattle.chip.specs.Registers.{atDefaults, fanStored, shownAt, clearedAt, storesAt, writtenAt}
+use Rattle.chip.specs.Ticks.{allFired, fansTicked, chipTicked}
+use Rattle.emc2305.specs.Transfers.{passed, byteWritten, inTurn, sent, byteRead}
+use Rattle.emc2305.specs.Step.{stepNumber, taken, stepped}
+use Rattle.emc2305.specs.Traffic.{anyStoresTo, sentStoresTo}
+use Rattle.promises.specs.Ramp.{afterAll, throughout, takenTicks}
+use Rattle.promises.specs.Corollaries.{updatesIn, updatesMade}
+use Rattle.promises.specs.Busy.{numbersOf, BusyRamp}
+use Rattle.promises.specs.Examples.{Examples}
+
+pub examples-hold : Examples
+unfolding repeated rangeNumber readAt locked shown stores powerOn moved goal underRamp spinDrive started tooSlow spinFailed spinOver spinTick updated counted ticked wishTaken clockSet settled written withReading stall sampled fired registerOf bitsOf atDefaults fanStored shownAt storesAt writtenAt passed byteWritten inTurn sent allFired fansTicked chipTicked stepNumber taken stepped afterAll
+examples-hold = refl
+
+pub busy-ramp : BusyRamp
+unfolding repeated rangeNumber locked stores powerOn moved goal underRamp wished spinDrive started tooSlow spinFailed spinOver spinTick updated counted ticked wishTaken clockSet settled written withReading stall sampled registerOf atDefaults fanStored storesAt writtenAt clearedAt passed byteWritten inTurn sent byteRead allFired fansTicked chipTicked stepNumber taken stepped anyStoresTo sentStoresTo afterAll throughout takenTicks updatesIn updatesMade numbersOf
+busy-ramp = ((refl, refl, refl, refl, refl, refl, refl, omega arith), refl, refl, refl, refl, refl, refl)

@@ -1,0 +1,10 @@
+pub mod Events
+pub mod RampKept
+pub mod Demand3
+pub mod Arrivals
+pub mod Parts
+pub mod OwnBytes
+pub mod OwnTraffic
+pub mod Bare
+pub mod Neighbours
+pub mod Computed

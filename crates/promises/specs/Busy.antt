@@ -1,0 +1,63 @@
+-- A sequence that demand 3 speaks of: fan 2 ramps up while its neighbours are busy, events are refused and samples come in.
+use mathlib.Core.Path.{_≡_}
+use mathlib.Core.Bool.{true, false}
+use mathlib.Core.List.{List, [], _∷_, map}
+use Prim.Native.Nat.{ℕ}
+use Rattle.eventlog.specs.declared.Event.{Event}
+use Rattle.eventlog.specs.declared.Event.the-variants.{PowerOn, Ticks, Sample, Wish, Transfer}
+use Rattle.chip.specs.declared.Chip.{Chip}
+use Rattle.chip.specs.Registers.{unpowered}
+use Rattle.emc2305.specs.Step.{stepped}
+use Rattle.promises.specs.Ramp.{Handed, next, afterAll, throughout, takenTicks, fanOf, undisturbed, Ramping}
+use Rattle.promises.specs.Corollaries.{updatesMade}
+
+-- the bytes of its transfers
+abbrev pub bytes : List ℕ
+bytes = 0x43 ∷ 0x68 ∷ 0x40 ∷ 0xF0 ∷ 0x30 ∷ 0xFF ∷ 0x57 ∷ 0x3F ∷ 0x80 ∷ 0xEF ∷ 0x01 ∷ 0x47 ∷ 0x01 ∷ 0x24 ∷ 0x20 ∷ []
+
+-- an event with these lent, and a reply buffer of 32 bytes
+abbrev pub given : Event → Handed
+given event = record { log = bytes; event = event; room = 32 }
+
+-- before it: ramp control set on fan 2, Setting 240 written, its spin-up of 40 ticks, and 10 ticks more
+abbrev pub ready : Chip
+ready =
+    afterAll (map given (PowerOn 0x2C ∷ Transfer false 0x2C 0 2 ∷ Transfer false 0x2C 2 2 ∷ Ticks 50 ∷ [])) unpowered
+
+-- fan 1 spins up, fan 3 gets another Max Step and Minimum Drive, the chip is locked
+-- refused: a transfer to another address, a power-on with address 200, a read whose reply has no room
+-- of fan 2 itself: a write that the lock keeps from being stored, a wish in direct mode, a good sample and one that stalls, its status read and cleared
+abbrev pub busy : List Handed
+busy =
+    given (Transfer false 0x2C 4 2)
+    ∷ given (Ticks 20)
+    ∷ given (Transfer false 0x2D 2 2)
+    ∷ given (PowerOn 200)
+    ∷ given (Sample 2 100)
+    ∷ given (Wish 2 7)
+    ∷ given (Transfer false 0x2C 6 3)
+    ∷ given (Ticks 5)
+    ∷ record { log = bytes; event = Transfer true 0x2C 14 1; room = 31 }
+    ∷ given (Transfer false 0x2C 9 2)
+    ∷ given (Transfer false 0x2C 11 2)
+    ∷ given (Sample 2 8000)
+    ∷ given (Transfer false 0x2C 13 1)
+    ∷ given (Transfer true 0x2C 14 1)
+    ∷ given (Ticks 65)
+    ∷ []
+
+-- the numbers of the steps
+unfoldable pub numbersOf : List Handed → Chip → List ℕ
+numbersOf [] c = []
+numbersOf (h ∷ rest) c = stepped c (h .log) (h .event) (h .room) .number ∷ numbersOf rest (next h c)
+
+-- demand 3's conditions hold of it, with 90 ticks; three updates of 16 take the drive from 153 to 201, and the clock stands at 100 - 96
+abbrev pub BusyRamp : Type 0
+BusyRamp =
+    Ramping 1 153 240 16 32 10 ready
+    × (throughout (undisturbed 1) busy ready ≡ true)
+    × (numbersOf busy ready ≡ 0 ∷ 0 ∷ 7 ∷ 5 ∷ 0 ∷ 0 ∷ 0 ∷ 0 ∷ 8 ∷ 0 ∷ 0 ∷ 0 ∷ 0 ∷ 0 ∷ 0 ∷ [])
+    × (takenTicks busy ready ≡ 90)
+    × (updatesMade 1 busy ready ≡ 3)
+    × (fanOf 1 (afterAll busy ready) .drive ≡ 201)
+    × (fanOf 1 (afterAll busy ready) .clock ≡ 4)

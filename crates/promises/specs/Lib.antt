@@ -1,0 +1,6 @@
+pub mod Ramp
+pub mod Corollaries
+pub mod Trace
+pub mod Alone
+pub mod Busy
+pub mod Examples
