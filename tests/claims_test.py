@@ -26,6 +26,23 @@ ASKING = "pub fn asking(x: u8) -> u8\n    requires { ⌜ x < 9 ⌝ }\n    ensure
 EXPORTED = '#[no_mangle]\npub extern "C" fn exported(x: u8) -> u8 {\n    x\n}\n'
 METHOD = "impl S {\n    pub fn method(self) -> u8 {\n        0\n    }\n}\n"
 
+# A statement, an edit in the gate and one tried apart, and a page that names them.
+STATED = {
+    "crates/a/src/lib.rt": WHOLE,
+    "crates/a/specs/Promises.antt": "abbrev pub Kept : Type 0\nKept = Unit\n\nabbrev pub part : ℕ → Type 0\npart n = Unit\n",
+    "crates/a/must-fail/wrong.edit": "",
+    "tried/a/odd.edit": "",
+}
+PAGE = "`Kept` holds; tried: `wrong`, `odd`†.\n"
+
+# A name, the files of a folder, the exit status, and what must be printed.
+PAGES = [
+    ("a page that names all", {**STATED, "page": PAGE}, 0, ["1 public functions, 0 without"]),
+    ("a statement that is not named", {**STATED, "page": PAGE.replace("`Kept`", "Kept")}, 1, ["Kept is not named"]),
+    ("an edit that is not named", {**STATED, "page": PAGE.replace("`wrong`", "wrong")}, 1, ["wrong.edit is not named"]),
+    ("an edit that is not there", {**STATED, "page": PAGE + "`gone`†"}, 1, ["gone is not in"]),
+]
+
 # A name, the files of a crates folder, the exit status, and what must be printed.
 CASES = [
     ("a whole claim passes", {"a/src/lib.rt": WHOLE}, 0, ["1 public functions, 0 without"]),
@@ -40,21 +57,22 @@ CASES = [
 ]
 
 
-def run(files):
+def run(files, arguments):
     with tempfile.TemporaryDirectory() as folder:
         for name, text in files.items():
             file = pathlib.Path(folder, name)
             file.parent.mkdir(parents=True, exist_ok=True)
             file.write_text(text, encoding="utf-8")
-        return subprocess.run([sys.executable, CLAIMS, folder], capture_output=True, text=True)
+        return subprocess.run([sys.executable, CLAIMS, *arguments], cwd=folder, capture_output=True, text=True)
 
 
 failed = 0
-for name, files, status, lines in CASES:
-    done = run(files)
+TRIALS = [(*case, ["."]) for case in CASES] + [(*case, ["crates", "page", "tried"]) for case in PAGES]
+for name, files, status, lines, arguments in TRIALS:
+    done = run(files, arguments)
     wrong = [line for line in lines if line not in done.stdout]
     if done.returncode != status or wrong:
         failed += 1
         print(f"claims_test: {name}: status {done.returncode}, printed:\n{done.stdout}{done.stderr}")
-print(f"claims_test: {len(CASES) - failed} of {len(CASES)} cases")
+print(f"claims_test: {len(TRIALS) - failed} of {len(TRIALS)} cases")
 sys.exit(1 if failed else 0)

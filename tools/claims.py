@@ -1,15 +1,19 @@
 #!/usr/bin/env python3
 """Holds every public function of every library crate to a claim: an `ensures` and no `requires`.
 
-    tools/claims.py CRATES_FOLDER
+    tools/claims.py CRATES_FOLDER [CLAIMS_PAGE TRIED_FOLDER]
 
 Prints each offender with file and line, then a count; exits 1 where there is an offender or no public function at all.
+With a page it also holds the page to what is there: each statement of specs/ and each must-fail edit is named on it, and each edit that it marks
+with a dagger is in the folder of those tried apart.
 """
 import pathlib
 import re
 import sys
 
 PUBLIC = re.compile(r'\bpub\s+(?:extern\s+"C"\s+)?fn\s+(\w+)')
+STATEMENT = re.compile(r"^abbrev pub (\w+) : Type 0$", re.MULTILINE)
+DAGGER = re.compile(r"`(\w+)`†")
 CLAUSE = re.compile(r"\b(requires|ensures|ghost|decreases)\b(?:\s+\w+)?\s*\{")
 
 
@@ -60,14 +64,34 @@ def offences(crates):
     return count, found
 
 
+def unnamed(crates, page, tried):
+    """The statements and edits that a page does not name, and the edits that it marks as tried apart and that are not."""
+    text = pathlib.Path(page).read_text(encoding="utf-8")
+    named, found = set(re.findall(r"`(\w+)`", text)), []
+    for file in sorted(pathlib.Path(crates).glob("*/specs/*.antt")):
+        for statement in STATEMENT.findall(file.read_text(encoding="utf-8")):
+            if statement not in named:
+                found.append(f"{file}: {statement} is not named in {page}")
+    for file in sorted(pathlib.Path(crates).glob("*/must-fail/*.edit")):
+        if file.stem not in named:
+            found.append(f"{file} is not named in {page}")
+    kept = {file.stem for file in pathlib.Path(tried).glob("*/*.edit")}
+    for name in sorted(set(DAGGER.findall(text)) - kept):
+        found.append(f"{page}: {name} is not in {tried}")
+    return found
+
+
 def main():
-    if len(sys.argv) != 2:
+    if len(sys.argv) not in (2, 4):
         sys.exit(__doc__)
     count, found = offences(sys.argv[1])
+    astray = unnamed(*sys.argv[1:]) if len(sys.argv) == 4 else []
     for offence in found:
         print(offence)
+    for name in astray:
+        print(name)
     print(f"claims: {count} public functions, {len(found)} without a full claim")
-    sys.exit(1 if found or count == 0 else 0)
+    sys.exit(1 if found or astray or count == 0 else 0)
 
 
 if __name__ == "__main__":
