@@ -1,15 +1,18 @@
--- A sequence that demand 3 speaks of: fan 2 ramps up while its neighbours are busy, events are refused and samples come in.
+-- A sequence and a log that demand 3 speaks of: fan 2 ramps up while its neighbours are busy, events are refused and samples come in.
 use mathlib.Core.Path.{_≡_}
 use mathlib.Core.Bool.{true, false}
-use mathlib.Core.List.{List, [], _∷_, map}
+use mathlib.Core.List.{List, [], _∷_, _++_, map}
 use Prim.Native.Nat.{ℕ}
 use Rattle.eventlog.specs.declared.Event.{Event}
 use Rattle.eventlog.specs.declared.Event.the-variants.{PowerOn, Ticks, Sample, Wish, Transfer}
+use Rattle.eventlog.specs.Layout.{laidOut}
 use Rattle.chip.specs.declared.Chip.{Chip}
 use Rattle.chip.specs.Registers.{unpowered}
 use Rattle.emc2305.specs.Step.{stepped}
+use Rattle.replay.specs.Run.{ended, runOf}
 use Rattle.promises.specs.Ramp.{Handed, next, afterAll, throughout, takenTicks, fanOf, undisturbed, Ramping}
 use Rattle.promises.specs.Corollaries.{updatesMade}
+use Rattle.promises.specs.Trace.{walkAfter, part}
 
 -- the bytes of its transfers
 abbrev pub bytes : List ℕ
@@ -61,3 +64,29 @@ BusyRamp =
     × (updatesMade 1 busy ready ≡ 3)
     × (fanOf 1 (afterAll busy ready) .drive ≡ 201)
     × (fanOf 1 (afterAll busy ready) .clock ≡ 4)
+
+-- the log samples/ramp.log: power-on; ramp control and Setting 240 for fan 2; 50 ticks; its drive is read
+-- then fan 1 is started; 20 ticks; a write to another address; a sample of fan 2; 70 ticks; the pointer is set, and the drive of fan 2 read again
+abbrev pub trace : List ℕ
+trace =
+    laidOut 1 (0x2C ∷ [])
+    ++ (laidOut 5 (0x58 ∷ 0x43 ∷ 0x68 ∷ [])
+    ++ (laidOut 5 (0x58 ∷ 0x40 ∷ 0xF0 ∷ [])
+    ++ (laidOut 2 (50 ∷ 0 ∷ [])
+    ++ (laidOut 5 (0x59 ∷ 1 ∷ [])
+    ++ (laidOut 5 (0x58 ∷ 0x30 ∷ 0xFF ∷ [])
+    ++ (laidOut 2 (20 ∷ 0 ∷ [])
+    ++ (laidOut 5 (0x5A ∷ 0x40 ∷ 0x00 ∷ [])
+    ++ (laidOut 3 (2 ∷ 100 ∷ 0 ∷ [])
+    ++ (laidOut 2 (70 ∷ 0 ∷ [])
+    ++ (laidOut 5 (0x58 ∷ 0x40 ∷ []) ++ laidOut 5 (0x59 ∷ 1 ∷ [])))))))))))
+
+-- between its fifth record and its twelfth, the last, the conditions hold; the replies are the drives 153 and 201
+abbrev pub TraceRamp : Type 0
+TraceRamp =
+    Ramping 1 153 240 16 32 10 (walkAfter trace 2 5 .chip)
+    × (throughout (undisturbed 1) (part trace 2 5 7) (walkAfter trace 2 5 .chip) ≡ true)
+    × (takenTicks (part trace 2 5 7) (walkAfter trace 2 5 .chip) ≡ 90)
+    × (fanOf 1 (walkAfter trace 2 12 .chip) .drive ≡ 201)
+    × (runOf trace 2 .records ≡ 12)
+    × (ended trace 2 .walk .replies ≡ 153 ∷ 201 ∷ [])

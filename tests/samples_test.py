@@ -1,0 +1,43 @@
+#!/usr/bin/env python3
+"""Holds the logs of samples/ to their listings: by document 01, and by the program.
+
+    python3 tests/samples_test.py target/bin/emc2305_replay
+
+It also holds samples/ramp.log to the log that crates/promises/specs/Busy.antt proves a ramp of.
+"""
+import pathlib
+import re
+import subprocess
+import sys
+
+import replay_expected as replay
+from eventlog_expected import MARK
+
+ROOT = pathlib.Path(__file__).resolve().parent.parent
+RECORD = re.compile(r"laidOut (\d+) \(([^()]*)\)")
+
+
+def fail(text):
+    sys.exit(f"samples_test: {text}")
+
+
+def proved_trace():
+    """The bytes of the definition `trace`."""
+    definition = (ROOT / "crates/promises/specs/Busy.antt").read_text(encoding="utf-8").split("\ntrace =")[1].split("\n\n")[0]
+    payloads = [(int(kind), [int(x, 0) for x in row.split(" ∷ ")[:-1]]) for kind, row in RECORD.findall(definition)]
+    return b"".join(bytes([*MARK, kind, len(payload), *payload]) for kind, payload in payloads)
+
+
+if len(sys.argv) != 2:
+    sys.exit(__doc__)
+logs = sorted((ROOT / "samples").glob("*.log"))
+for file in logs:
+    log, lines = file.read_bytes(), file.with_suffix(".lines").read_bytes()
+    if replay.listing(log) != lines:
+        fail(f"{file.name}: its lines are not document 01's")
+    if subprocess.run([sys.argv[1]], input=log, capture_output=True, timeout=60).stdout != lines:
+        fail(f"{file.name}: the program lists other lines")
+if (ROOT / "samples/ramp.log").read_bytes() != proved_trace():
+    fail("ramp.log is not the log that the ramp is proved of")
+print(f"samples_test: {len(logs)} samples")
+sys.exit(0 if len(logs) > 1 else 1)
