@@ -1,16 +1,18 @@
 -- What follows from demand 3 (specs/Corollaries.antt).
-use mathlib.Core.Path.{_≡_, refl, sym, ap, _∙_}
+use mathlib.Core.Path.{_≡_, refl, sym, _∙_}
+use mathlib.Core.Logic.{⊎-elim}
 use mathlib.Core.Bool.{Bool, true, false, cond, not, _&&_, and-false, false≢true, true≢false}
 use mathlib.Core.List.{List, [], _∷_}
-use Prim.Native.Nat.{ℕ, zero, suc, _+_, _-_, _*_, _/_, _%_, _≤_}
+use Prim.Native.Nat.{ℕ, zero, suc, _+_, _-_, _*_, _/_, _%_, _≤_, _<_}
 use native.Mathlib.Omega.{arith}
 use native.Mathlib.Nat.{add-zero, add-assoc, mul-comm, div-eq-of-lt}
 use lib.Dec.{leb}
 use lib.ListN.{take, drop}
-use borrow.Author.Tests.{leb-true, leb-false, eq-eqb}
+use borrow.Author.Tests.{leb-true, leb-false, le-ltb, eq-eqb}
 use Rattle.laws.specs.Repeat.{repeated}
 use Rattle.laws.proofs.Divide.{one-more, one-round}
 use Rattle.laws.proofs.Tests.{by-test, and-left, and-right}
+use Rattle.eventlog.specs.Range.{rangeNumber}
 use Rattle.fan.specs.Ramp.{moved}
 use Rattle.fan.specs.Drive.{underRamp, period}
 use Rattle.fan.specs.Tick.{counted, ticked}
@@ -18,9 +20,10 @@ use Rattle.fan.proofs.Ramps.{one-update, updates, arrives}
 use Rattle.watchdog.specs.declared.Watch.the-variants.{Off}
 use Rattle.chip.specs.declared.Chip.{Chip}
 use Rattle.chip.specs.Ticks.{chipTicked}
+use Rattle.emc2305.specs.Step.{stepNumber, stepped}
 use Rattle.emc2305.specs.Traffic.{isSample, isWishFor, ticksOf}
 use Rattle.promises.specs.Ramp.{Handed, next, isTaken, afterAll, throughout, takenTicks, fanOf, undisturbed, Ramping}
-use Rattle.promises.specs.Corollaries.{RefusedMeets, UpdateTicks, updatesIn, updatesMade, Arrival, NeverPasses}
+use Rattle.promises.specs.Corollaries.{RefusedMeets, TicksTaken, UpdateTicks, updatesIn, updatesMade, Arrival, ticksAt, AtEachPoint, NeverPasses}
 use Rattle.promises.proofs.Events.{by-taken, first-rest}
 use Rattle.promises.proofs.RampKept.{Ramped, no-ticks, off-before, chip-ticks, of-event}
 use Rattle.promises.proofs.Demand3.{div-then, moved-then, and-then, ramp-promise}
@@ -28,6 +31,10 @@ use Rattle.promises.proofs.Demand3.{div-then, moved-then, and-then, ram
 never : (b : Bool) → not b && b ≡ false
 never true = refl
 never false = refl
+
+pub ticks-taken : TicksTaken
+unfolding stepped stepNumber rangeNumber
+ticks-taken log count room c on = rw (on, le-ltb room 0 (omega arith))
 
 pub refused-meets : RefusedMeets
 refused-meets i h c t off =
@@ -101,14 +108,17 @@ kept-cut rule (suc k) (h ∷ rest) c q =
     let f = first-rest rule h rest c q in
     let b = kept-cut rule k rest (next h c) (f .1) in (rw (f .0) (b .0), b .1)
 
-ticks-cut : (k : ℕ) (events : List Handed) (c : Chip)
-    → takenTicks events c ≡ takenTicks (take k events) c + takenTicks (drop k events) (afterAll (take k events) c)
+-- the ticks up to an event and its own are no more than those up to a later one
+ticks-up-to : (k l : ℕ) (events : List Handed) (c : Chip) → k < l
+    → takenTicks (take k events) c + ticksAt k events c ≤ takenTicks (take l events) c
 unfolding takenTicks afterAll
-ticks-cut zero events c = omega arith
-ticks-cut (suc k) [] c = refl
-ticks-cut (suc k) (h ∷ rest) c =
-    let n : ℕ = cond (isTaken h c) (ticksOf (h .event)) 0 in
-    ap (λ (t : ℕ). n + t) (ticks-cut k rest (next h c)) ∙ omega arith
+ticks-up-to k zero events c h = absurd (omega arith)
+ticks-up-to zero (suc l) [] c h = omega arith
+ticks-up-to zero (suc l) (first ∷ rest) c h = omega arith
+ticks-up-to (suc k) (suc l) [] c h = omega arith
+ticks-up-to (suc k) (suc l) (first ∷ rest) c h =
+    let n : ℕ = cond (isTaken first c) (ticksOf (first .event)) 0 in
+    omega (arith, ticks-up-to k l rest (next first c) (omega arith))
 
 -- m ticks of the first event
 point : (m i d g s u p : ℕ) (c : Chip) (events : List Handed) → Ramping i d g s u p c → throughout (undisturbed i) events c ≡ true
@@ -119,15 +129,20 @@ point (suc m) i d g s u p c [] r q h = absurd (omega arith)
 point (suc m) i d g s u p c (first ∷ rest) r q h =
     chip-ticks (suc m) i d g s u p c r (off-before i first c (first-rest (undisturbed i) first rest c q .0))
 
-pub never-passes : NeverPasses
-never-passes i d g s u p k m c events r q h =
-    let done = takenTicks (take k events) c in
+pub at-each-point : AtEachPoint
+at-each-point i d g s u p k m c events r q h =
     let after = afterAll (take k events) c in
-    let left = takenTicks events c - (done + m) in
-    let t : takenTicks events c ≡ done + m + left = omega (arith, ticks-cut k events c, ticks-cut 1 (drop k events) after) in
     let a = kept-cut (undisturbed i) k events c q in
     let b = ramp-promise i d g s u p c (take k events) r (a .0) in
-    let x = and-then done m i d g s u p (repeated m chipTicked after) (point m i _ g s u _ after (drop k events) b (a .1) h) in
-    let e = ramp-promise i d g s u p c events r q in
-    rw (x .2, e .2, t, moved-then (done + m) left d g s u p (omega arith))
-    (one-update d g (s * ((p + (done + m)) / u)) .1, one-update (moved d g (s * ((p + (done + m)) / u))) g _ .1)
+    and-then (takenTicks (take k events) c) m i d g s u p (repeated m chipTicked after) (point m i _ g s u _ after (drop k events) b (a .1) h)
+
+pub never-passes : NeverPasses
+never-passes i d g s u p k m l n c events r q (here, there, order) =
+    let t = takenTicks (take k events) c + m in
+    let later = takenTicks (take l events) c + n in
+    let more = later - t in
+    let e : later ≡ t + more = ⊎-elim (λ b. omega (arith, ticks-up-to k l events c b)) (λ b. rw (b .0) (omega (arith, b .1))) order in
+    let x = at-each-point i d g s u p k m c events r q here in
+    let y = at-each-point i d g s u p l n c events r q there in
+    rw (x .2, y .2, e, moved-then t more d g s u p (omega arith))
+    (one-update d g (s * ((p + t) / u)) .1, one-update (moved d g (s * ((p + t) / u))) g _ .1)

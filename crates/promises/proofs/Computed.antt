@@ -1,4 +1,4 @@
--- What is shown by computing alone: document 01's examples, and the sequence and the log of specs/Busy.antt.
+-- What is shown by computing alone: document 01's examples, and the sequences and the log of specs/Busy.antt.
 use mathlib.Core.Path.{refl}
 use native.Mathlib.Omega.{arith}
 use Rattle.laws.specs.Repeat.{repeated}
@@ -24,7 +24,7 @@ use Rattle.replay.specs.Promises.{walkOver}
 use Rattle.promises.specs.Ramp.{afterAll, throughout, takenTicks}
 use Rattle.promises.specs.Corollaries.{updatesIn, updatesMade}
 use Rattle.promises.specs.Trace.{handedOver}
-use Rattle.promises.specs.Busy.{numbersOf, BusyRamp, TraceRamp}
+use Rattle.promises.specs.Busy.{numbersOf, BusyRamp, ClosedRamp, TraceRamp}
 use Rattle.promises.specs.Examples.{Examples}
 
 pub examples-hold : Examples
@@ -34,6 +34,10 @@ examples-hold = refl
 pub busy-ramp : BusyRamp
 unfolding repeated rangeNumber locked stores powerOn moved goal underRamp wished spinDrive started tooSlow spinFailed spinOver spinTick updated counted ticked wishTaken clockSet settled written withReading stall sampled registerOf atDefaults fanStored storesAt writtenAt clearedAt passed byteWritten inTurn sent byteRead allFired fansTicked chipTicked stepNumber taken stepped anyStoresTo sentStoresTo afterAll throughout takenTicks updatesIn updatesMade numbersOf
 busy-ramp = ((refl, refl, refl, refl, refl, refl, refl, omega arith), refl, refl, refl, refl, refl, refl)
+
+pub closed-ramp : ClosedRamp
+unfolding repeated rangeNumber locked stores powerOn moved goal underRamp wished spinDrive started tooSlow spinFailed spinOver spinTick updated counted ticked wishTaken clockSet settled written withReading stall sampled registerOf atDefaults fanStored storesAt writtenAt passed byteWritten inTurn sent allFired fansTicked chipTicked stepNumber taken stepped anyStoresTo sentStoresTo afterAll throughout takenTicks numbersOf
+closed-ramp = (refl, (refl, refl, refl, refl, refl, refl, refl, omega arith), refl, refl, refl, refl)
 
 pub trace-ramp : TraceRamp
 unfolding repeated rangeNumber readAt locked shown stores powerOn moved goal underRamp wished spinDrive started tooSlow spinFailed spinOver spinTick updated counted ticked wishTaken clockSet settled written withReading stall sampled registerOf atDefaults fanStored shownAt storesAt writtenAt clearedAt passed byteWritten inTurn sent byteRead replyOf allFired fansTicked chipTicked stepNumber taken replyTo stepped anyStoresTo sentStoresTo recordsFrom recordsOf runOver ended runOf walkOver handedOver afterAll throughout takenTicks

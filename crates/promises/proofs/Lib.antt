@@ -5,6 +5,7 @@ pub mod Arrivals
 pub mod Parts
 pub mod OwnBytes
 pub mod OwnTraffic
+pub mod Statuses
 pub mod Bare
 pub mod Neighbours
 pub mod Computed

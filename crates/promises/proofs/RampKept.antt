@@ -67,7 +67,7 @@ module _ (d g s u p : ℕ) where
       rw (ramp-ticks n f ramp still (rw (clock, every) below))
       (ramp, still, rw (drive, goes, steps, clock, every), goes, steps, every, rw (clock, every), mod-lt (p + n) (omega arith))
 
-  -- what it says goes by these six alone
+  -- of the registers it goes by these six alone
   of-reading : (count : ℕ) (f : Fan) → RampingFan d g s u p f → RampingFan d g s u p (withReading count f)
   unfolding goal underRamp withReading
   of-reading count f r =

@@ -22,6 +22,7 @@ use Rattle.chip.specs.Fans.{bitCleared}
 use Rattle.chip.specs.Registers.{fedChip}
 use Rattle.emc2305.specs.Transfers.{byteWritten, byteRead}
 use Rattle.emc2305.specs.Traffic.{byteStoresTo}
+use Rattle.emc2305.specs.Promises.{butStatus}
 use Rattle.promises.specs.Ramp.{Handed, next, isTaken, afterAll, throughout, fanOf, watchOff}
 
 -- what reaches a fan: a tick, a sample, a wish, a stored byte at an offset, a read that clears a status bit of every fan
@@ -101,6 +102,26 @@ NoFanWaits =
     → fanOf i c ≡ fanOf i d
     → ownTraffic i events c ≡ ownTraffic i others d
     → fanOf i (afterAll events c) ≡ fanOf i (afterAll others d)
+
+-- traffic without the reads of 25h and 26h
+unfoldable pub butClears : List Own → List Own
+butClears [] = []
+butClears (tick ∷ rest) = tick ∷ butClears rest
+butClears (sample count ∷ rest) = sample count ∷ butClears rest
+butClears (wish drive ∷ rest) = wish drive ∷ butClears rest
+butClears (store offset byte ∷ rest) = store offset byte ∷ butClears rest
+butClears (clear which ∷ rest) = butClears rest
+
+-- where they agree on all but these reads, they leave it the same but for its bits of 25h and 26h
+abbrev pub StatusAside : Type 0
+StatusAside =
+    (i : ℕ) (c d : Chip) (events others : List Handed)
+    → (length (c .fans) ≡ 5) × (length (d .fans) ≡ 5) × (i < 5)
+    → throughout watchOff events c ≡ true
+    → throughout watchOff others d ≡ true
+    → butStatus (fanOf i c) ≡ butStatus (fanOf i d)
+    → butClears (ownTraffic i events c) ≡ butClears (ownTraffic i others d)
+    → butStatus (fanOf i (afterAll events c)) ≡ butStatus (fanOf i (afterAll others d))
 
 -- two chips that are alike but for their other four fans, which may be in any state
 abbrev pub AlikeBut : ℕ → Chip → Chip → Type 0

@@ -1,14 +1,15 @@
 -- What follows from demand 3: refused events meet its conditions; when the fan arrives, and that it never passes its goal.
 use mathlib.Core.Path.{_≡_}
-use mathlib.Core.Logic.{_↔_}
+use mathlib.Core.Logic.{_↔_, _⊎_}
 use mathlib.Core.Bool.{Bool, true, false, cond, not, _&&_}
 use mathlib.Core.List.{List, [], _∷_}
-use Prim.Native.Nat.{ℕ, zero, suc, _+_, _/_, _≤_}
+use Prim.Native.Nat.{ℕ, zero, suc, _+_, _*_, _/_, _%_, _≤_, _<_}
 use lib.Dec.{leb}
 use lib.ListN.{take, drop}
 use Rattle.laws.specs.Repeat.{repeated}
+use Rattle.eventlog.specs.declared.Event.the-variants.{Ticks}
 use Rattle.fan.specs.declared.Fan.{Fan}
-use Rattle.fan.specs.Ramp.{distance}
+use Rattle.fan.specs.Ramp.{distance, moved}
 use Rattle.fan.specs.Drive.{underRamp, period}
 use Rattle.fan.specs.Tick.{updated, ticked}
 use Rattle.fan.specs.Promises.{updatesTo}
@@ -22,6 +23,10 @@ use Rattle.promises.specs.Ramp.{Handed, next, isTaken, afterAll, through
 abbrev pub RefusedMeets : Type 0
 RefusedMeets = (i : ℕ) (h : Handed) (c : Chip) → isTaken h c ≡ false → isOff (c .watch) ≡ true → undisturbed i h c ≡ true
 
+-- a chip with power takes every tick event, so t leaves none out
+abbrev pub TicksTaken : Type 0
+TicksTaken = (log : List ℕ) (count room : ℕ) (c : Chip) → c .powered ≡ true → isTaken (record { log = log; event = Ticks count; room = room }) c ≡ true
+
 -- a fan's next tick is an update: its clock counts and comes to the period
 abbrev pub atUpdate : Fan → Bool
 atUpdate f = underRamp f && (not (f .spin .running) && leb (period f) (f .clock + 1))
@@ -33,7 +38,7 @@ UpdateTicks =
     → (atUpdate f ≡ true → ticked f ≡ updated f)
     × (f .spin .running ≡ false → atUpdate f ≡ false → ticked f .drive ≡ f .drive)
 
--- the updates of fan i + 1 in n ticks
+-- the updates of fan i + 1 in n ticks, in none of which the watch fires
 unfoldable pub updatesIn : ℕ → ℕ → Chip → ℕ
 updatesIn i zero c = 0
 updatesIn i (suc n) c = updatesIn i n c + cond (atUpdate (fanOf i (repeated n chipTicked c))) 1 0
@@ -61,16 +66,30 @@ pointAt k m events c = repeated m chipTicked (afterAll (take k events) c)
 abbrev pub ticksAt : ℕ → List Handed → Chip → ℕ
 ticksAt k events c = takenTicks (take 1 (drop k events)) (afterAll (take k events) c)
 
--- x lies on the way from d to g
-abbrev pub Between : ℕ → ℕ → ℕ → Type 0
-Between d x g = distance d x + distance x g ≡ distance d g
-
--- at no point of the sequence has it passed g, and from a point to the end it only comes nearer
-abbrev pub NeverPasses : Type 0
-NeverPasses =
+-- demand 3 at every point of the sequence, with t the ticks up to there
+abbrev pub AtEachPoint : Type 0
+AtEachPoint =
     (i d g s u p k m : ℕ) (c : Chip) (events : List Handed)
     → Ramping i d g s u p c
     → throughout (undisturbed i) events c ≡ true
     → m ≤ ticksAt k events c
+    → let t : ℕ = takenTicks (take k events) c + m in
+    Ramping i (moved d g (s * ((p + t) / u))) g s u ((p + t) % u) (pointAt k m events c)
+
+-- x lies on the way from d to g
+abbrev pub Between : ℕ → ℕ → ℕ → Type 0
+Between d x g = distance d x + distance x g ≡ distance d g
+
+-- the point after l events and n ticks is not before that after k and m
+abbrev pub NotBefore : ℕ → ℕ → ℕ → ℕ → Type 0
+NotBefore k m l n = (k < l) ⊎ ((k ≡ l) × (m ≤ n))
+
+-- at no point of the sequence has it passed g, and from any point to a later one it only comes nearer
+abbrev pub NeverPasses : Type 0
+NeverPasses =
+    (i d g s u p k m l n : ℕ) (c : Chip) (events : List Handed)
+    → Ramping i d g s u p c
+    → throughout (undisturbed i) events c ≡ true
+    → (m ≤ ticksAt k events c) × (n ≤ ticksAt l events c) × NotBefore k m l n
     → Between d (fanOf i (pointAt k m events c) .drive) g
-    × Between (fanOf i (pointAt k m events c) .drive) (fanOf i (afterAll events c) .drive) g
+    × Between (fanOf i (pointAt k m events c) .drive) (fanOf i (pointAt l n events c) .drive) g

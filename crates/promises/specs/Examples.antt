@@ -15,7 +15,9 @@ use Rattle.fan.specs.Tick.{ticked}
 use Rattle.fan.specs.Stored.{written}
 use Rattle.fan.specs.Tach.{sampled}
 use Rattle.fan.specs.Promises.{afterUpdates, driveAfter}
+use Rattle.chip.specs.declared.Chip.{Chip}
 use Rattle.chip.specs.Registers.{unpowered, shownAt}
+use Rattle.chip.specs.Promises.{allDefaults, shownBelow}
 use Rattle.promises.specs.Ramp.{Handed, afterAll}
 
 -- the figures at 0 to n - 1
@@ -43,19 +45,23 @@ stallBit c = cond (sampled c false (repeated 40 ticked fanAt80) .stalled) 1 0
 abbrev pub readNumber : List ℕ → ℕ
 readNumber log = numberRead (readAt log 0)
 
--- an event whose bytes, if it is a transfer, stand in EFh 01h, 37h 20h, 30h 80h; it has no reply
-abbrev pub given : Event → Handed
-given event = record { log = 0xEF ∷ 0x01 ∷ 0x37 ∷ 0x20 ∷ 0x30 ∷ 0x80 ∷ []; event = event; room = 0 }
+-- an event whose bytes, if it is a transfer, stand in EFh 01h, 37h 20h, 30h 80h, 31h 01h; it has no reply
+abbrev pub exampleGiven : Event → Handed
+exampleGiven event = record { log = 0xEF ∷ 0x01 ∷ 0x37 ∷ 0x20 ∷ 0x30 ∷ 0x80 ∷ 0x31 ∷ 0x01 ∷ []; event = event; room = 0 }
 
--- what registers show after events in turn, the first of which is a power-on
+-- the chip after a power-on and events in turn
+abbrev pub chipAfter : List Event → Chip
+chipAfter events = afterAll (map exampleGiven (PowerOn 0x2C ∷ events)) unpowered
+
+-- what registers show then
 abbrev pub shownAfter : List Event → List ℕ → List ℕ
-shownAfter events addresses = map (shownAt (afterAll (map given (PowerOn 0x2C ∷ events)) unpowered)) addresses
+shownAfter events addresses = map (shownAt (chipAfter events)) addresses
 
 -- every fan's Setting, and 24h
 abbrev pub settings : List ℕ
 settings = 0x30 ∷ 0x40 ∷ 0x50 ∷ 0x60 ∷ 0x70 ∷ 0x24 ∷ []
 
--- the lock set, 37h or 30h written, and the ticks of the spin-up that the latter starts
+-- the lock set; 37h, 30h or 31h written
 abbrev pub lockSet : Event
 lockSet = Transfer false 0x2C 0 2
 
@@ -65,7 +71,12 @@ write37 = Transfer false 0x2C 2 2
 abbrev pub write30 : Event
 write30 = Transfer false 0x2C 4 2
 
+abbrev pub write31 : Event
+write31 = Transfer false 0x2C 6 2
+
 -- what the rules give, and document 01's figures, in its order
+-- "nothing": every address shows its default; FFh is the stored Setting too, since a write to 31h, which sets the drive to it, leaves the drive
+-- 30h "stored": the drive is 80h after the 40 ticks of the spin-up that the write starts
 abbrev pub examples : List (List ℕ × List ℕ)
 examples =
     (updateRow 2 153 128 16, 137 ∷ 128 ∷ [])
@@ -75,8 +86,9 @@ examples =
     ∷ (firsts 41 (driveAfter fanAt80), replicate 10 255 ++ (replicate 30 153 ++ (128 ∷ [])))
     ∷ (map (driveAfter rampedAt80) (40 ∷ 72 ∷ 104 ∷ []), 153 ∷ 137 ∷ 128 ∷ [])
     ∷ (map stallBit (7871 ∷ 7872 ∷ []), 0 ∷ 1 ∷ [])
-    ∷ (shownAfter (Ticks 319 ∷ []) settings, 0x00 ∷ 0x00 ∷ 0x00 ∷ 0x00 ∷ 0x00 ∷ 0x00 ∷ [])
+    ∷ (shownBelow 256 (chipAfter (Ticks 319 ∷ [])), allDefaults)
     ∷ (shownAfter (Ticks 320 ∷ []) settings, 0xFF ∷ 0xFF ∷ 0xFF ∷ 0xFF ∷ 0xFF ∷ 0x80 ∷ [])
+    ∷ (shownAfter (Ticks 320 ∷ write31 ∷ []) (0x30 ∷ []), 0xFF ∷ [])
     ∷ (readNumber (0x9C ∷ []) ∷ [], 1 ∷ [])
     ∷ (readNumber (0x9D ∷ []) ∷ [], 2 ∷ [])
     ∷ (readNumber (0x9C ∷ 0x46 ∷ 0x02 ∷ 0x09 ∷ []) ∷ [], 4 ∷ [])
