@@ -40,6 +40,7 @@ PAGES = [
     ("a page that names all", {**STATED, "page": PAGE}, 0, ["1 public functions, 0 without"]),
     ("a statement that is not named", {**STATED, "page": PAGE.replace("`Kept`", "Kept")}, 1, ["Kept is not named"]),
     ("an edit that is not named", {**STATED, "page": PAGE.replace("`wrong`", "wrong")}, 1, ["wrong.edit is not named"]),
+    ("an edit that is tried apart", {**STATED, "page": PAGE.replace("†", "")}, 1, ["odd is in tried, and has no dagger"]),
     ("an edit that is not there", {**STATED, "page": PAGE + "`gone`†"}, 1, ["gone is not in"]),
 ]
 

@@ -4,8 +4,8 @@
     tools/claims.py CRATES_FOLDER [CLAIMS_PAGE TRIED_FOLDER]
 
 Prints each offender with file and line, then a count; exits 1 where there is an offender or no public function at all.
-With a page it also holds the page to what is there: each statement of specs/ and each must-fail edit is named on it, and each edit that it marks
-with a dagger is in the folder of those tried apart.
+With a page it also holds the page to what is there: each statement of specs/ and each must-fail edit is named on it, and a name on it has a dagger
+where the edit is in the folder of those tried apart, and nowhere else. Names go by themselves, without their crate.
 """
 import pathlib
 import re
@@ -14,6 +14,7 @@ import sys
 PUBLIC = re.compile(r'\bpub\s+(?:extern\s+"C"\s+)?fn\s+(\w+)')
 STATEMENT = re.compile(r"^abbrev pub (\w+) : Type 0$", re.MULTILINE)
 DAGGER = re.compile(r"`(\w+)`†")
+PLAIN = re.compile(r"`(\w+)`(?!†)")
 CLAUSE = re.compile(r"\b(requires|ensures|ghost|decreases)\b(?:\s+\w+)?\s*\{")
 
 
@@ -76,8 +77,11 @@ def unnamed(crates, page, tried):
         if file.stem not in named:
             found.append(f"{file} is not named in {page}")
     kept = {file.stem for file in pathlib.Path(tried).glob("*/*.edit")}
+    gate = {file.stem for file in pathlib.Path(crates).glob("*/must-fail/*.edit")}
     for name in sorted(set(DAGGER.findall(text)) - kept):
         found.append(f"{page}: {name} is not in {tried}")
+    for name in sorted(set(PLAIN.findall(text)) & kept - gate):
+        found.append(f"{page}: {name} is in {tried}, and has no dagger")
     return found
 
 
