@@ -14,6 +14,7 @@ use Rattle.watchdog.specs.declared.Watch.the-variants.{Off, PowerUp, Continuous
 use Rattle.watchdog.specs.Watch.{isOff}
 use Rattle.chip.specs.declared.Chip.{Chip}
 use Rattle.emc2305.specs.Step.{stepNumber, taken, stepped}
+use Rattle.emc2305.specs.Promises.{after}
 use Rattle.emc2305.proofs.Numbers.{step-numbers}
 use Rattle.promises.specs.Ramp.{Handed, next, isTaken, throughout}
 
@@ -36,8 +37,8 @@ module _ (h : Handed) (c : Chip) where
   by-taken is isnt =
       let n = stepNumber (c .powered) (c .address) (h .log) (h .event) (h .room) in
       let numbers = step-numbers (c .powered) (c .address) (h .log) (h .event) (h .room) in
-      by-test (eqb n 0) (λ t. is (rw (t, isTaken)) (rw (t, next)) (in-range (h .log) (h .event) (numbers .4 .0 (eqb-true n 0 t) .0)))
-      (λ t. isnt (rw (t, isTaken, t)) (rw (t, next)))
+      by-test (eqb n 0) (λ t. is (rw (t, isTaken)) (rw (t, next, after)) (in-range (h .log) (h .event) (numbers .4 .0 (eqb-true n 0 t) .0)))
+      (λ t. isnt (rw (t, isTaken, t)) (rw (t, next, after)))
 
 -- what holds throughout a sequence, at its first event and throughout the rest
 pub first-rest : (rule : Handed → Chip → Bool) (h : Handed) (rest : List Handed) (c : Chip) → throughout rule (h ∷ rest) c ≡ true

@@ -18,7 +18,7 @@ use Rattle.fan.specs.declared.Fan.{Fan}
 use Rattle.fan.specs.State.{withWish}
 use Rattle.fan.specs.Registers.{byteAt, closedLoop}
 use Rattle.fan.specs.Ramp.{moved}
-use Rattle.fan.specs.Drive.{goal, underRamp, step, period, wished}
+use Rattle.fan.specs.Drive.{goal, underRamp, wished}
 use Rattle.fan.specs.Spin.{started, tooSlow}
 use Rattle.fan.specs.Tick.{ticked}
 use Rattle.fan.specs.Tach.{countHigh, countLow, withReading, judged, stall, sampled}
@@ -36,16 +36,10 @@ use Rattle.emc2305.specs.Step.{taken}
 use Rattle.emc2305.specs.Traffic.{storesTo, ticksOf}
 use Rattle.emc2305.specs.Promises.{butStatus}
 use Rattle.emc2305.proofs.FansKept.{other-fans}
-use Rattle.promises.specs.Ramp.{Handed, next, isTaken, fanOf, noPowerOn, noStoredWrite, noNewWish, noSampleStarts, watchOff, undisturbed, Ramping}
+use Rattle.promises.specs.Ramp.{Handed, next, isTaken, fanOf, noPowerOn, noStoredWrite, noNewWish, noSampleStarts, watchOff, undisturbed, RampingFan, Ramping}
 use Rattle.promises.proofs.Events.{is-off, by-taken}
 
--- what Ramping says, of a fan
-abbrev RampingFan : ℕ → ℕ → ℕ → ℕ → ℕ → Fan → Type 0
-RampingFan d g s u p f =
-    (underRamp f ≡ true) × (f .spin .running ≡ false)
-    × (f .drive ≡ d) × (goal f ≡ g) × (step f ≡ s) × (period f ≡ u) × (f .clock ≡ p) × (p < u)
-
--- and after n ticks more
+-- ramping as after n ticks more
 abbrev pub Ramped : ℕ → ℕ → ℕ → ℕ → ℕ → ℕ → ℕ → Chip → Type 0
 Ramped n i d g s u p c = Ramping i (moved d g (s * ((p + n) / u))) g s u ((p + n) % u) c
 

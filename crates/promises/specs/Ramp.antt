@@ -13,6 +13,7 @@ use Rattle.chip.specs.declared.Chip.{Chip}
 use Rattle.chip.specs.Fans.{fanAt}
 use Rattle.emc2305.specs.Step.{stepped}
 use Rattle.emc2305.specs.Traffic.{storesTo, isPowerOn, isSample, isWishFor, ticksOf}
+use Rattle.emc2305.specs.Promises.{after}
 
 -- an event with the log and the reply buffer lent to its step; of the buffer only the length counts
 pub record Handed : Type 0 where
@@ -22,7 +23,7 @@ pub record Handed : Type 0 where
 
 -- the chip after it
 abbrev pub next : Handed → Chip → Chip
-next h c = stepped c (h .log) (h .event) (h .room) .chip
+next h c = after (h .log) (h .event) (h .room) c
 
 -- it is taken: its number is 0
 abbrev pub isTaken : Handed → Chip → Bool
@@ -71,11 +72,15 @@ watchOff h c = isOff (c .watch) && isOff (next h c .watch)
 abbrev pub undisturbed : ℕ → Handed → Chip → Bool
 undisturbed i h c = noPowerOn h c && (noStoredWrite i h c && (noNewWish i h c && (noSampleStarts i h c && watchOff h c)))
 
--- fan i + 1 is under ramp control, not spinning up, at drive d with goal g, step s and update period u, its update clock at p, below u
+-- a fan under ramp control, not spinning up, at drive d with goal g, step s and update period u, its update clock at p, below u
+abbrev pub RampingFan : ℕ → ℕ → ℕ → ℕ → ℕ → Fan → Type 0
+RampingFan d g s u p f =
+    (underRamp f ≡ true) × (f .spin .running ≡ false)
+    × (f .drive ≡ d) × (goal f ≡ g) × (step f ≡ s) × (period f ≡ u) × (f .clock ≡ p) × (p < u)
+
+-- such is fan i + 1
 abbrev pub Ramping : ℕ → ℕ → ℕ → ℕ → ℕ → ℕ → Chip → Type 0
-Ramping i d g s u p c =
-    (underRamp (fanOf i c) ≡ true) × (fanOf i c .spin .running ≡ false)
-    × (fanOf i c .drive ≡ d) × (goal (fanOf i c) ≡ g) × (step (fanOf i c) ≡ s) × (period (fanOf i c) ≡ u) × (fanOf i c .clock ≡ p) × (p < u)
+Ramping i d g s u p c = RampingFan d g s u p (fanOf i c)
 
 -- after any such events its drive is d moved toward g by the smaller of the distance and s times the whole part of (p + t) / u; goal, step and period
 -- are as they were, it is still under ramp control and not spinning up, and its clock is at the remainder of (p + t) / u. It holds of a chip without power too.
