@@ -1,0 +1,32 @@
+//! Cobblehard for Rust: a proved model of the EMC2305 fan controller, and of the event logs that drive it.
+//!
+//! ```
+//! use cobblehard::{run, Event};
+//!
+//! let mut log = Vec::new();
+//! for event in [
+//!     Event::PowerOn { address: 0x2C },
+//!     Event::Write { address: 0x2C, bytes: &[0x30, 0x80] }, // fan 1's Setting
+//!     Event::Read { address: 0x2C, count: 1 },
+//! ] {
+//!     event.append_to(&mut log)?;
+//! }
+//! let (outcome, replies) = run(&log);
+//! assert_eq!(outcome.stop, None);
+//! assert_eq!(replies, [0xFF]); // the fan spins up
+//! # Ok::<(), cobblehard::Refusal>(())
+//! ```
+//!
+//! It needs libcobblehard.a, which `rt staticlib cobblehard` makes; see build.rs.
+
+#[cfg(not(target_arch = "x86_64"))]
+compile_error!("libcobblehard.a is for x86-64");
+
+mod c;
+mod event;
+mod refusal;
+mod run;
+
+pub use event::{read, records, Event, Records, LONGEST_RECORD};
+pub use refusal::Refusal;
+pub use run::{replies_room, run, run_into, Run};

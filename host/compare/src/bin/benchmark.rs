@@ -1,0 +1,144 @@
+//! Measures the proved model beside the independent one, in one process over the same logs, and both listing programs.
+//! Prints tables as docs/PERFORMANCE.md has them.
+use compare::logs::{self, Measured};
+use compare::subject::{Independent, Proved, Subject};
+use std::fs::File;
+use std::hint::black_box;
+use std::path::Path;
+use std::process::{Command, Stdio};
+use std::time::Instant;
+
+/// How often each thing is measured, the two models in turn; the median counts.
+const REPEATS: usize = 11;
+
+fn main() {
+    let proved = Proved::built();
+    runs(&proved);
+    growth(&proved);
+    listings(&proved);
+}
+
+/// The median of several times, in seconds.
+fn median(mut seconds: Vec<f64>) -> f64 {
+    seconds.sort_by(f64::total_cmp);
+    seconds[seconds.len() / 2]
+}
+
+/// The median times of two things, measured in turn.
+fn both(mut first: impl FnMut(), mut second: impl FnMut()) -> (f64, f64) {
+    let timed = |what: &mut dyn FnMut()| {
+        let start = Instant::now();
+        what();
+        start.elapsed().as_secs_f64()
+    };
+    let times = (0..REPEATS).map(|_| (timed(&mut first), timed(&mut second)));
+    let (first_times, second_times) = times.unzip();
+    (median(first_times), median(second_times))
+}
+
+/// The median times of a run over the log, by the proved model and by the independent one.
+fn run_times(proved: &Proved, log: &[u8]) -> (f64, f64) {
+    let room = cobblehard::replies_room(log.len());
+    let (mut replies, mut others) = (vec![0; room], vec![0; room]);
+    let times = both(
+        || {
+            black_box(proved.run(log, &mut replies));
+        },
+        || {
+            black_box(Independent.run(log, &mut others));
+        },
+    );
+    assert!(replies == others, "the models answered otherwise");
+    times
+}
+
+fn runs(proved: &Proved) {
+    println!("| log | records | ticks | | proved | independent | ratio |");
+    println!("|---|---|---|---|---|---|---|");
+    for Measured {
+        name,
+        log,
+        records,
+        ticks,
+    } in [
+        logs::ticking(2_000),
+        logs::transferring(200_000),
+        logs::mixed(2_000_000),
+    ] {
+        let (ours, theirs) = run_times(proved, &log);
+        let row = |what: &str, count: u64| {
+            let millions = |seconds: f64| count as f64 / seconds / 1e6;
+            println!(
+                "| {name} | {records} | {ticks} | million {what} a second | {:.2} | {:.2} | {:.2} |",
+                millions(ours),
+                millions(theirs),
+                theirs / ours
+            );
+        };
+        row("records", records);
+        if ticks > 0 {
+            row("ticks", ticks);
+        }
+    }
+    println!();
+}
+
+/// Time a record, as the log grows.
+fn growth(proved: &Proved) {
+    println!("| log | bytes | records | proved, ns a record | independent, ns a record |");
+    println!("|---|---|---|---|---|");
+    for bytes in [500_000, 1_000_000, 2_000_000, 4_000_000, 8_000_000] {
+        let Measured { name, log, records, .. } = logs::mixed(bytes);
+        let (ours, theirs) = run_times(proved, &log);
+        let each = |seconds: f64| seconds * 1e9 / records as f64;
+        println!(
+            "| {name} | {} | {records} | {:.1} | {:.1} |",
+            log.len(),
+            each(ours),
+            each(theirs)
+        );
+    }
+    println!();
+}
+
+/// Both programs, from a file and into nothing.
+fn listings(proved: &Proved) {
+    let other = std::env::current_exe()
+        .expect("this program has a path")
+        .with_file_name("list");
+    println!("| log | bytes in | bytes out | | proved | independent | ratio |");
+    println!("|---|---|---|---|---|---|---|");
+    for Measured { name, log, .. } in [
+        logs::short_ticks(2_000_000),
+        logs::transferring(1_000_000),
+        logs::mixed(16_000_000),
+    ] {
+        let file = std::env::temp_dir().join(format!("cobblehard-{}.log", std::process::id()));
+        std::fs::write(&file, &log).expect("the temporary folder takes a file");
+        let lines = Independent.list(&log);
+        assert!(proved.list(&log) == lines, "the programs list otherwise");
+        let (ours, theirs) = both(|| list(&proved.program, &file), || list(&other, &file));
+        std::fs::remove_file(&file).expect("the file is there");
+        for (what, bytes) in [("MB of log", log.len()), ("MB of lines", lines.len())] {
+            let speed = |seconds: f64| bytes as f64 / seconds / 1e6;
+            println!(
+                "| {name} | {} | {} | {what} a second | {:.1} | {:.1} | {:.2} |",
+                log.len(),
+                lines.len(),
+                speed(ours),
+                speed(theirs),
+                theirs / ours
+            );
+        }
+    }
+}
+
+fn list(program: &Path, file: &Path) {
+    let input = File::open(file).expect("the log was written");
+    let status = Command::new(program).stdin(input).stdout(Stdio::null()).status();
+    assert!(
+        status.is_ok_and(|status| status.success()),
+        "{} failed",
+        program.display()
+    );
+}

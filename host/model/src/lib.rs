@@ -1,0 +1,8 @@
+//! A model of the EMC2305 five-fan controller and of its event logs, by the rules of document 01.
+
+#![forbid(unsafe_code)]
+
+pub mod chip;
+pub mod listing;
+pub mod log;
+pub mod replay;
