@@ -3,6 +3,7 @@ pub mod Others
 pub mod Ways
 pub mod Bits
 pub mod Moves
+pub mod Together
 pub mod Statuses
 pub mod Watches
 pub mod ChipTicks

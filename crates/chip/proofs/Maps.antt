@@ -1,14 +1,14 @@
 -- What stands at an address, range by range, and which indices it can have.
 use mathlib.Core.Path.{_≡_, refl, sym, subst, _∙_}
-use mathlib.Core.Bool.{Bool, true, false, cond}
+use mathlib.Core.Bool.{Bool, true, false, cond, not, _||_, false≢true, true≢false}
 use Prim.Native.Nat.{ℕ, _-_, _/_, _%_, _≤_, _<_}
 use native.Mathlib.Omega.{arith}
 use lib.Dec.{leb, eqb}
-use borrow.Author.Tests.{le-leb, lt-leb, leb-true, ne-eqb}
-use Rattle.laws.proofs.Tests.{and-right}
+use borrow.Author.Tests.{le-leb, lt-leb, leb-true, leb-false, ne-eqb}
+use Rattle.laws.proofs.Tests.{by-test, and-left, and-right, or-left, or-right}
 use Rattle.chip.specs.declared.Register.{Register}
 use Rattle.chip.specs.declared.Register.the-variants.{Configuration, Status, StallStatus, SpinStatus, DriveFailStatus, Enable, Output, OfFan, Lock, Identity, Undefined}
-use Rattle.chip.specs.Map.{within, registerOf}
+use Rattle.chip.specs.Map.{within, outside, registerOf}
 
 module _ (a : ℕ) where
   above : (k : ℕ) → k < a → eqb a k ≡ false
@@ -17,13 +17,13 @@ module _ (a : ℕ) where
   below : (k : ℕ) → a < k → eqb a k ≡ false
   below k h = ne-eqb a k (λ e. absurd (omega arith))
 
-  inside : (first last : ℕ) → first ≤ a → a ≤ last → within first last a ≡ true
+  pub inside : (first last : ℕ) → first ≤ a → a ≤ last → within first last a ≡ true
   inside first last h k = rw (le-leb first a h) (le-leb a last k)
 
-  under : (first last : ℕ) → a < first → within first last a ≡ false
+  pub under : (first last : ℕ) → a < first → within first last a ≡ false
   under first last h = rw (lt-leb first a h)
 
-  over : (first last : ℕ) → first ≤ last → last < a → within first last a ≡ false
+  pub over : (first last : ℕ) → first ≤ last → last < a → within first last a ≡ false
   over first last w h = let p : first ≤ a = omega arith in rw (le-leb first a p) (lt-leb a last h)
 
   -- at or past a number, and not that number
@@ -56,6 +56,9 @@ module _ (a : ℕ) where
   -- the fans' registers
   pub maps-fan : 0x30 ≤ a → a ≤ 0x7F → registerOf a ≡ OfFan ((a - 0x30) / 0x10) (a % 0x10)
   maps-fan h k = from-2A _ (omega arith) (rw (over 0x2A 0x2D (omega arith) (omega arith), inside 0x30 0x7F h k))
+
+  pub of-fan : within 0x30 0x7F a ≡ true → registerOf a ≡ OfFan ((a - 0x30) / 0x10) (a % 0x10)
+  of-fan t = maps-fan (leb-true 0x30 a (and-left (leb 0x30 a) (leb a 0x7F) t)) (leb-true a 0x7F (and-right (leb 0x30 a) (leb a 0x7F) t))
 
   -- the identity bytes
   pub maps-identity : 0xFC ≤ a → a ≤ 0xFF → registerOf a ≡ Identity (a - 0xFC)
@@ -108,6 +111,60 @@ by-register P a configuration status stall spin fail enable output ofFan lock id
     (either P (within 0x30 0x7F a) (λ e. ofFan ((a - 0x30) / 0x10) (a % 0x10) (let h : a ≤ 0x7F = up-to 0x30 0x7F a e in omega arith))
     (either P (eqb a 0xEF) (λ _. lock)
     (either P (within 0xFC 0xFF a) (λ e. identity (a - 0xFC) (let h : a ≤ 0xFF = up-to 0xFC 0xFF a e in omega arith)) undefined)))))))))
+
+-- a register of a fan
+abbrev pub ofSomeFan : Register → Bool
+ofSomeFan Configuration = false
+ofSomeFan Status = false
+ofSomeFan StallStatus = false
+ofSomeFan SpinStatus = false
+ofSomeFan DriveFailStatus = false
+ofSomeFan Enable = false
+ofSomeFan (Output i) = false
+ofSomeFan (OfFan i offset) = true
+ofSomeFan Lock = false
+ofSomeFan (Identity i) = false
+ofSomeFan Undefined = false
+
+-- none stands at an address that is not from 30h to 7Fh
+pub of-no-fan : (a : ℕ) → within 0x30 0x7F a ≡ false → ofSomeFan (registerOf a) ≡ false
+unfolding registerOf
+of-no-fan a f =
+    let P : Register → Type 0 = λ r. ofSomeFan r ≡ false in
+    either P (eqb a 0x20) (λ _. refl)
+    (either P (eqb a 0x24) (λ _. refl)
+    (either P (eqb a 0x25) (λ _. refl)
+    (either P (eqb a 0x26) (λ _. refl)
+    (either P (eqb a 0x27) (λ _. refl)
+    (either P (eqb a 0x29) (λ _. refl)
+    (either P (within 0x2A 0x2D a) (λ _. refl)
+    (either P (within 0x30 0x7F a) (λ t. absurd (true≢false (sym t ∙ f)))
+    (either P (eqb a 0xEF) (λ _. refl) (either P (within 0xFC 0xFF a) (λ _. refl) refl)))))))))
+
+-- nothing stands outside the stretches that have registers
+not-true : (b : Bool) → not b ≡ true → b ≡ false
+not-true true e = absurd (false≢true e)
+not-true false e = refl
+
+pub nothing-outside : (a : ℕ) → outside a ≡ true → registerOf a ≡ Undefined
+nothing-outside a o =
+    let n = not-true (within 0x20 0x7F a || (eqb a 0xEF || within 0xFC 0xFF a)) o in
+    let m = or-right (within 0x20 0x7F a) (eqb a 0xEF || within 0xFC 0xFF a) n in
+    by-test (leb 0x20 a)
+    (λ t.
+    let f : leb a 0x7F ≡ false = rw t at (or-left (within 0x20 0x7F a) (eqb a 0xEF || within 0xFC 0xFF a) n) in
+    let h : 0x7F < a = leb-false a 0x7F f in
+    from-2A a Undefined (omega arith)
+    (rw (
+      over a 0x2A 0x2D (omega arith) (omega arith),
+      over a 0x30 0x7F (omega arith) h,
+      or-left (eqb a 0xEF) (within 0xFC 0xFF a) m,
+      or-right (eqb a 0xEF) (within 0xFC 0xFF a) m,
+    )))
+    (λ f.
+    let h : a < 0x20 = leb-false 0x20 a f in
+    maps-low a (omega arith) (below a 0x20 h) (below a 0x24 (omega arith)) (below a 0x25 (omega arith)) (below a 0x26 (omega arith))
+    (below a 0x27 (omega arith)) (below a 0x29 (omega arith)))
 
 -- the index that a register can have
 abbrev pub Placed : Register → Type 0

@@ -7,12 +7,14 @@ use lib.ListN.{length, set, length-map}
 use Rattle.laws.specs.Repeat.{repeated}
 use Rattle.laws.proofs.Repeat.{repeated-keeps}
 use Rattle.laws.proofs.Tests.{by-test}
+use Rattle.fan.specs.declared.Fan.{Fan}
+use Rattle.fan.specs.Tick.{ticked}
+use Rattle.fan.specs.Tach.{fired}
 use Rattle.watchdog.specs.Watch.{fires}
 use Rattle.chip.specs.declared.Bit.{Bit}
 use Rattle.chip.specs.declared.Bit.the-variants.{Stall, Spin}
 use Rattle.chip.specs.declared.Chip.{Chip}
-use Rattle.chip.specs.declared.Move.{Move}
-use Rattle.chip.specs.declared.Move.the-variants.{Tick, Watchdog, Clear}
+use Rattle.chip.specs.declared.Move.the-variants.{Clear}
 use Rattle.chip.specs.declared.Register.{Register}
 use Rattle.chip.specs.declared.Register.the-variants.{Configuration, Status, StallStatus, SpinStatus, DriveFailStatus, Enable, Output, OfFan, Lock, Identity, Undefined}
 use Rattle.chip.specs.State.{withFans, withEnable, withOutputs, withLock, withExpired}
@@ -61,17 +63,17 @@ module _ {B : Type 0} (v : Chip → B) where
   written-keeps address byte c h = by-test (storesAt c address) (λ t. rw t (h t)) (λ t. rw t)
 
 -- a tick moves all fans alike
-abbrev pub tickMove : Chip → Move
-tickMove c = cond (fires (c .watch)) Watchdog Tick
+abbrev pub tickMove : Chip → Fan → Fan
+tickMove c = cond (fires (c .watch)) fired ticked
 
-pub tick-fans : (c : Chip) → chipTicked c .fans ≡ map (moveOf (tickMove c)) (c .fans)
+pub tick-fans : (c : Chip) → chipTicked c .fans ≡ map (tickMove c) (c .fans)
 unfolding chipTicked allFired fansTicked
 tick-fans c = by-test (fires (c .watch)) (λ t. rw t) (λ t. rw t)
 
 -- it keeps their number, and so do n ticks
 pub ticks-count : (n : ℕ) (c : Chip) → length (repeated n chipTicked c .fans) ≡ length (c .fans)
 ticks-count n c =
-    repeated-keeps (λ (d : Chip). length (d .fans)) n chipTicked c (λ d. ap length (tick-fans d) ∙ length-map (d .fans) (moveOf (tickMove d)))
+    repeated-keeps (λ (d : Chip). length (d .fans)) n chipTicked c (λ d. ap length (tick-fans d) ∙ length-map (d .fans) (tickMove d))
 
 -- and 20h and EFh
 pub tick-rest : (c : Chip) → (chipTicked c .configuration ≡ c .configuration) × (chipTicked c .lock ≡ c .lock)

@@ -5,18 +5,16 @@ use mathlib.Core.List.{List}
 use Prim.Native.Nat.{ℕ, _+_, _≤_}
 use native.Mathlib.Omega.{arith}
 use lib.Dec.{eqb}
-use lib.ListN.{length, set}
+use lib.ListN.{length}
 use lib.Seq.{set-out}
 use Rattle.fan.specs.declared.Fan.{Fan}
 use Rattle.fan.specs.Registers.{bit}
-use Rattle.fan.specs.Stored.{written}
-use Rattle.watchdog.specs.declared.Watch.{Watch}
-use Rattle.watchdog.specs.Watch.{fires, watchTicked, programmed}
+use Rattle.watchdog.specs.Watch.{fires, watchTicked}
 use Rattle.chip.specs.declared.Chip.{Chip}
 use Rattle.chip.specs.State.{withFans, withWatch}
 use Rattle.chip.specs.Map.{registerOf}
 use Rattle.chip.specs.Fans.{fanAt, interrupting}
-use Rattle.chip.specs.Registers.{onFan, stallByte, spinByte, statusByte, alertLine, isLocked, guarded, writableIn, storesAt, programs, fanStored, storedOf, writtenAt}
+use Rattle.chip.specs.Registers.{onFan, stallByte, spinByte, statusByte, alertLine, isLocked, guarded, writableIn, storesAt, storedOf, writtenAt}
 use Rattle.chip.specs.Ticks.{allFired, fansTicked, chipTicked}
 
 -- a flag is at most its weight; and one that stands where a test fails
@@ -79,14 +77,3 @@ module _ (c : Chip) where
     pub writes-nothing : (byte : ℕ) → storesAt c address ≡ false → c ≡ writtenAt address byte c
     unfolding writtenAt
     writes-nothing byte e = ap (λ (t : Bool). cond t (storedOf (registerOf address) byte c) c) (sym e)
-
-  -- a stored write to a fan's register
-  module _ (i offset byte : ℕ) (x : Fan) (e : x ≡ written offset byte (fanAt (c .fans) i)) where
-    pub fan-programmed : (w : Watch) → programs offset byte ≡ true → w ≡ programmed (c .watch)
-        → withWatch w (withFans (set (c .fans) i x) c) ≡ fanStored i offset byte c
-    unfolding fanStored
-    fan-programmed w t f = rw (t, f, e)
-
-    pub fan-kept : programs offset byte ≡ false → withFans (set (c .fans) i x) c ≡ fanStored i offset byte c
-    unfolding fanStored
-    fan-kept t = rw (t, e)

@@ -3,15 +3,16 @@ use mathlib.Core.Bool.{Bool, false, cond, _&&_, _||_}
 use mathlib.Core.List.{List, [], map}
 use Prim.Native.Nat.{ℕ, zero, suc, _+_, _^_}
 use lib.ListN.{getD}
+use Rattle.laws.specs.Repeat.{repeated}
 use Rattle.fan.specs.declared.Fan.{Fan}
 use Rattle.fan.specs.State.{withStalled, withFailed}
-use Rattle.fan.specs.Registers.{bit, noSpin}
-use Rattle.fan.specs.Tick.{ticked}
+use Rattle.fan.specs.Registers.{bit, noSpin, powerOn}
+use Rattle.fan.specs.Tick.{ticked, busy}
 use Rattle.fan.specs.Tach.{fired}
 use Rattle.chip.specs.declared.Bit.{Bit}
 use Rattle.chip.specs.declared.Bit.the-variants.{Stall, Spin}
 use Rattle.chip.specs.declared.Move.{Move}
-use Rattle.chip.specs.declared.Move.the-variants.{Tick, Watchdog, Clear}
+use Rattle.chip.specs.declared.Move.the-variants.{PowerOn, Ticks, Watchdog, Clear}
 
 -- past the fifth fan there is none: an empty one stands for it
 abbrev pub noFan : Fan
@@ -31,15 +32,21 @@ abbrev pub bitCleared : Bit → Fan → Fan
 bitCleared Stall f = withStalled false f
 bitCleared Spin f = withFailed false f
 
--- what happens to all five alike: a tick, the watchdog's firing, a status bit cleared
+-- what happens to all five alike: power-on, n ticks, the watchdog's firing, a status bit cleared
 abbrev pub moveOf : Move → Fan → Fan
-moveOf Tick f = ticked f
+moveOf PowerOn f = powerOn
+moveOf (Ticks n) f = repeated n ticked f
 moveOf Watchdog f = fired f
 moveOf (Clear bit) f = bitCleared bit f
 
 -- each fan takes a tick of its own: no fan waits for another
 abbrev pub allTicked : List Fan → List Fan
 allTicked fans = map ticked fans
+
+-- one of the first n fans has something to do in a tick
+unfoldable pub anyBusy : List Fan → ℕ → Bool
+anyBusy fans zero = false
+anyBusy fans (suc i) = anyBusy fans i || busy (fanAt fans i)
 
 -- the status byte of the first n fans: bit i - 1 for fan i
 unfoldable pub bitsOf : Bit → List Fan → ℕ → ℕ

@@ -1,5 +1,5 @@
 -- The register map: which rule an address falls under, over ranges.
-use mathlib.Core.Bool.{Bool, false, cond, _&&_}
+use mathlib.Core.Bool.{Bool, false, cond, not, _&&_, _||_}
 use Prim.Native.Nat.{ℕ, _-_, _/_, _%_}
 use lib.Dec.{leb, eqb}
 use Rattle.chip.specs.declared.Register.{Register}
@@ -23,6 +23,10 @@ registerOf address =
     (cond (eqb address 0xEF) Lock
     (cond (within 0xFC 0xFF address) (Identity (address - 0xFC))
     Undefined)))))))))
+
+-- no register stands outside 20h to 7Fh, EFh, and FCh to FFh
+abbrev pub outside : ℕ → Bool
+outside address = not (within 0x20 0x7F address || (eqb address 0xEF || within 0xFC 0xFF address))
 
 -- a register of fan i + 1
 abbrev pub isOfFan : ℕ → Register → Bool

@@ -129,10 +129,17 @@ storesIn c register = writableIn c register && not (isLocked c && guarded regist
 abbrev pub programs : ℕ → ℕ → Bool
 programs offset byte = eqb offset 0x0 || (eqb offset 0x2 && bit 7 byte)
 
--- a stored write to a fan's register; one that programs the fan ends the power-up watch
+-- whether a write to a fan's register is stored, under the byte of EFh
+abbrev pub fanStores : ℕ → ℕ → Fan → Bool
+fanStores lock offset f = stores f offset && not (bit 0 lock && locked offset)
+
+-- a stored write that programs a fan ends the power-up watch
+abbrev pub programmedBy : ℕ → ℕ → Chip → Chip
+programmedBy offset byte c = withWatch (cond (programs offset byte) (programmed (c .watch)) (c .watch)) c
+
+-- a stored write to a fan's register
 unfoldable pub fanStored : ℕ → ℕ → ℕ → Chip → Chip
-fanStored i offset byte c =
-    withWatch (cond (programs offset byte) (programmed (c .watch)) (c .watch)) (onFan i (written offset byte) c)
+fanStored i offset byte c = programmedBy offset byte (onFan i (written offset byte) c)
 
 -- a stored write; one to 20h starts or ends the continuous watch by its bit 5, WD_EN
 abbrev pub storedOf : Register → ℕ → Chip → Chip

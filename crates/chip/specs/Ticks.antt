@@ -1,6 +1,9 @@
 -- Ticks of the chip.
 use mathlib.Core.Bool.{true, cond}
 use mathlib.Core.List.{map}
+use Prim.Native.Nat.{ℕ}
+use Rattle.laws.specs.Repeat.{repeated}
+use Rattle.fan.specs.Tick.{ticked}
 use Rattle.fan.specs.Tach.{fired}
 use Rattle.watchdog.specs.Watch.{fires, watchTicked}
 use Rattle.chip.specs.declared.Chip.{Chip}
@@ -18,3 +21,7 @@ fansTicked c = withFans (allTicked (c .fans)) c
 -- in a tick the watchdog acts first; if it fires the fans don't move in it
 unfoldable pub chipTicked : Chip → Chip
 chipTicked c = withWatch (watchTicked (c .watch)) (cond (fires (c .watch)) (allFired c) (fansTicked c))
+
+-- n ticks of each fan
+abbrev pub eachTicked : ℕ → Chip → Chip
+eachTicked n c = withFans (map (repeated n ticked) (c .fans)) c

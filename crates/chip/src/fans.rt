@@ -7,7 +7,7 @@ ghost use mathlib.Core.Path.{_≡_};
 ghost use mathlib.Core.Bool.{cond};
 ghost use mathlib.Core.List.{map};
 ghost use Prim.Native.Nat.{_<_, _^_};
-ghost use Rattle.chip.specs.Fans.{bitCleared, moveOf, standing, bitsOf, interrupts, interrupting};
+ghost use Rattle.chip.specs.Fans.{bitCleared, moveOf, standing, bitsOf, interrupts, interrupting, anyBusy};
 
 // The weights of the bits for fans 1 to 5.
 const WEIGHTS: [u8; 5] = [0x01, 0x02, 0x04, 0x08, 0x10];
@@ -30,10 +30,25 @@ fn moved(fan: Fan, what: Move) -> Fan
     ensures { λ r. ⌜ r ≡ moveOf what fan ⌝ }
 {
     match what {
-        Move::Tick => fan.tick(),
+        Move::PowerOn => Fan::reset(),
+        Move::Ticks(count) => fan.ticks(count),
         Move::Watchdog => fan.watchdog(),
         Move::Clear(bit) => cleared(fan, bit),
     }
+}
+
+// Whether a fan has something to do in a tick.
+pub(crate) fn busy(fans: [Fan; 5]) -> bool
+    ensures { λ r. ⌜ r ≡ anyBusy fans 5 ⌝ }
+{
+    let mut on = false;
+    let mut i = 0;
+    while i < FANS {
+        let fan = fans[i];
+        on = on | fan.is_busy();
+        i += 1;
+    }
+    on
 }
 
 // A fan with one of its bits cleared.

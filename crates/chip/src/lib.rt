@@ -7,7 +7,10 @@ mod status;
 mod ticks;
 
 use fan::Fan;
+pub use map::is_of_fan;
+pub use map::is_outside;
 pub use map::register_of;
+pub use registers::fan_stores;
 use watchdog::Watch;
 ghost use mathlib.Core.Path.{_≡_};
 ghost use mathlib.Core.Bool.{true};
@@ -60,7 +63,8 @@ pub enum Register {
 
 // What happens to all five fans alike.
 pub enum Move {
-    Tick,
+    PowerOn,
+    Ticks(u16),
     Watchdog,
     Clear(Bit),
 }
@@ -91,10 +95,12 @@ impl Chip {
         ensures { λ r. ⌜ r ≡ atDefaults powered address ⌝ }
     {
         let fan = Fan::reset();
+        // From `each`, so that the compiler does not spread the defaults' bytes over every step.
+        let fans = fans::each([fan; 5], Move::PowerOn);
         Chip {
             powered,
             address,
-            fans: [fan; 5],
+            fans,
             configuration: 0x40,
             enable: 0x00,
             outputs: [0x00; 4],

@@ -1,7 +1,7 @@
 // The register map: what stands at an address.
 use crate::Register;
 ghost use mathlib.Core.Path.{_≡_};
-ghost use Rattle.chip.specs.Map.{registerOf};
+ghost use Rattle.chip.specs.Map.{within, outside, registerOf};
 
 // What stands at a register address.
 pub fn register_of(address: u8) -> Register
@@ -20,5 +20,27 @@ pub fn register_of(address: u8) -> Register
         0xEF => Register::Lock,
         0xFC..=0xFF => Register::Identity(at - 0xFC),
         _ => Register::Undefined,
+    }
+}
+
+// Whether a fan's register stands at the address.
+pub fn is_of_fan(address: u8) -> bool
+    ensures { λ r. ⌜ r ≡ within 0x30 0x7F address ⌝ }
+{
+    match address {
+        0x30..=0x7F => true,
+        _ => false,
+    }
+}
+
+// Whether the address lies outside the stretches that have registers.
+pub fn is_outside(address: u8) -> bool
+    ensures { λ r. ⌜ r ≡ outside address ⌝ }
+{
+    match address {
+        0x20..=0x7F => false,
+        0xEF => false,
+        0xFC..=0xFF => false,
+        _ => true,
     }
 }

@@ -6,17 +6,19 @@ use crate::Register;
 use crate::fans;
 use crate::map;
 use fan::CONFIGURATION_1;
+use fan::Fan;
 use fan::SETTING;
 ghost use mathlib.Core.Path.{_≡_};
 ghost use mathlib.Core.Bool.{_&&_};
 ghost use mathlib.Core.List.{map};
 ghost use Prim.Native.Nat.{_<_};
 ghost use lib.ListN.{getD, set};
+ghost use Rattle.fan.specs.Registers.{bit, locked};
 ghost use Rattle.chip.specs.declared.Register.the-variants.{Configuration};
 ghost use Rattle.chip.specs.State.{withFans, withOutputs};
 ghost use Rattle.chip.specs.Map.{registerOf};
 ghost use Rattle.chip.specs.Fans.{bitCleared};
-ghost use Rattle.chip.specs.Registers.{identity, shownAt, clearedAt, isLocked, guarded, writableIn, storesAt, programs, fanStored, storedOf, writtenAt};
+ghost use Rattle.chip.specs.Registers.{identity, shownAt, clearedAt, isLocked, guarded, writableIn, storesAt, fanStores, programs, programmedBy, fanStored, storedOf, writtenAt};
 
 // The identity bytes, from FCh on: product features, product, manufacturer, revision.
 const IDENTITY: [u8; 4] = [0x00, 0x34, 0x5D, 0x80];
@@ -162,12 +164,19 @@ impl Chip {
         requires { ⌜ i < 5 ⌝ }
         ensures { λ r. ⌜ r ≡ fanStored i offset byte self ⌝ }
     {
-        let chip = self.with_fan(i, self.fan(i).write(offset, byte));
+        self.with_fan(i, self.fan(i).write(offset, byte))
+            .programmed(offset, byte)
+    }
+
+    // What such a write does to the watch.
+    pub fn programmed(self, offset: usize, byte: u8) -> Chip
+        ensures { λ r. ⌜ r ≡ programmedBy offset byte self ⌝ }
+    {
         if programs(offset, byte) {
             let watch = self.watch;
-            chip.with_watch(watch.programmed())
+            self.with_watch(watch.programmed())
         } else {
-            chip
+            self
         }
     }
 
@@ -209,6 +218,28 @@ fn guarded(address: u8) -> bool
         Register::OfFan(_, offset) => fan::is_locked(offset),
         Register::Lock => true,
         _ => false,
+    }
+}
+
+// Whether a write to a fan's register is stored, under the byte of EFh.
+pub fn fan_stores(fan: Fan, lock: u8, offset: usize) -> bool
+    ensures { λ r. ⌜ r ≡ fanStores lock offset fan ⌝ }
+{
+    if lock_forbids(lock, offset) {
+        false
+    } else {
+        fan.stores(offset)
+    }
+}
+
+// Whether that byte locks, and the lock guards the offset.
+fn lock_forbids(lock: u8, offset: usize) -> bool
+    ensures { λ r. ⌜ r ≡ (bit 0 lock && locked offset) ⌝ }
+{
+    if lock / LOCKED % 2 == 1 {
+        fan::is_locked(offset)
+    } else {
+        false
     }
 }
 

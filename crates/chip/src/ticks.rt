@@ -4,33 +4,28 @@ use crate::Move;
 use crate::fans;
 ghost use mathlib.Core.Path.{_≡_};
 ghost use Rattle.laws.specs.Repeat.{repeated};
-ghost use Rattle.chip.specs.Ticks.{allFired, fansTicked, chipTicked};
+ghost use Rattle.chip.specs.Ticks.{allFired, chipTicked, eachTicked};
 
 impl Chip {
-    // So many ticks, one after the other.
+    // So many ticks, one after the other. Those in which the watchdog does not fire are taken together.
     pub fn ticks(self, count: u16) -> Chip
         ensures { λ r. ⌜ r ≡ repeated count chipTicked self ⌝ }
     {
         let mut chip = self;
-        let mut i: u16 = 0;
-        while i < count {
-            chip = chip.tick();
-            i += 1;
+        let mut left = count;
+        while left > 0 {
+            let watch = chip.watch;
+            if watch.fires() {
+                chip = chip.fired().with_watch(watch.tick());
+                left -= 1;
+            } else {
+                let quiet = watch.quiet(left);
+                let next = quiet.watch;
+                chip = chip.fans_ticked(quiet.ticks).with_watch(next);
+                left -= quiet.ticks;
+            }
         }
         chip
-    }
-
-    // One tick. The watchdog acts first; if it fires the fans do not move.
-    fn tick(self) -> Chip
-        ensures { λ r. ⌜ r ≡ chipTicked self ⌝ }
-    {
-        let watch = self.watch;
-        let next = watch.tick();
-        if watch.fires() {
-            self.fired().with_watch(next)
-        } else {
-            self.fans_ticked().with_watch(next)
-        }
     }
 
     // The watchdog fires.
@@ -42,11 +37,15 @@ impl Chip {
         self.with_fans(fans::each(all, Move::Watchdog))
     }
 
-    // Each fan takes a tick of its own.
-    fn fans_ticked(self) -> Chip
-        ensures { λ r. ⌜ r ≡ fansTicked self ⌝ }
+    // Each fan takes so many ticks of its own; where none has anything to do, nothing changes.
+    fn fans_ticked(self, count: u16) -> Chip
+        ensures { λ r. ⌜ r ≡ eachTicked count self ⌝ }
     {
         let all = self.fans;
-        self.with_fans(fans::each(all, Move::Tick))
+        if fans::busy(all) {
+            self.with_fans(fans::each(all, Move::Ticks(count)))
+        } else {
+            self
+        }
     }
 }

@@ -1,3 +1,4 @@
+mod Blocks
 pub mod Turns
 pub mod Ranged
 pub mod Answers

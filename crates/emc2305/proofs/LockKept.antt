@@ -19,10 +19,11 @@ use Rattle.fan.specs.Drive.{wished}
 use Rattle.fan.specs.Stored.{written}
 use Rattle.fan.specs.Tach.{sampled}
 use Rattle.fan.proofs.Kept.{registers-after}
+use Rattle.watchdog.specs.Watch.{fires}
+use Rattle.chip.specs.declared.Bit.{Bit}
 use Rattle.chip.specs.declared.Bit.the-variants.{Stall, Spin}
 use Rattle.chip.specs.declared.Chip.{Chip}
-use Rattle.chip.specs.declared.Move.{Move}
-use Rattle.chip.specs.declared.Move.the-variants.{Tick, Watchdog, Clear}
+use Rattle.chip.specs.declared.Move.the-variants.{Clear}
 use Rattle.chip.specs.declared.Register.{Register}
 use Rattle.chip.specs.declared.Register.the-variants.{Configuration, Status, StallStatus, SpinStatus, DriveFailStatus, Enable, Output, OfFan, Lock, Identity, Undefined}
 use Rattle.chip.specs.State.{withPointer}
@@ -58,11 +59,15 @@ module _ (o : ℕ) (l : locked o ≡ true) where
   beside : (f : Fan) (j k x y : ℕ) → (o ≡ j → ⊥) → (o ≡ k → ⊥) → getD (set (set (f .registers) j x) k y) o 0 ≡ byteAt o f
   beside f j k x y m n = getD-set-other (set (f .registers) j x) k o y 0 n ∙ getD-set-other (f .registers) j o x 0 m
 
-  move-still : (move : Move) (f : Fan) → shown (moveOf move f) o ≡ shown f o
-  move-still Tick f = still f _ _ (registers-after f .0) refl
-  move-still Watchdog f = still f _ _ (registers-after f .4) (beside f 0x0 0x2 _ _ (λ e. omega (arith, inside)) (λ e. omega (arith, inside)))
-  move-still (Clear Stall) f = still f _ _ refl refl
-  move-still (Clear Spin) f = still f _ _ refl refl
+  tick-still : (c : Chip) (f : Fan) → shown (tickMove c f) o ≡ shown f o
+  tick-still c f =
+      by-test (fires (c .watch))
+      (λ t. rw t (still f _ _ (registers-after f .4) (beside f 0x0 0x2 _ _ (λ e. omega (arith, inside)) (λ e. omega (arith, inside)))))
+      (λ t. rw t (still f _ _ (registers-after f .0) refl))
+
+  clear-still : (which : Bit) (f : Fan) → shown (moveOf (Clear which) f) o ≡ shown f o
+  clear-still Stall f = still f _ _ refl refl
+  clear-still Spin f = still f _ _ refl refl
 
   wish-still : (wish : ℕ) (f : Fan) → shown (wished wish f) o ≡ shown f o
   wish-still wish f = still f _ _ (registers-after f .1 wish) refl
@@ -79,8 +84,9 @@ module _ (o : ℕ) (l : locked o ≡ true) where
       (λ t. rw t))
 
   -- in the list of fans: all moved alike, and one changed
-  all-still : (move : Move) (fans : List Fan) (i : ℕ) → shown (fanAt (map (moveOf move) fans) i) o ≡ shown (fanAt fans i) o
-  all-still move fans i = map-keeps (λ (f : Fan). shown f o) (moveOf move) (move-still move) fans i noFan
+  all-still : (move : Fan → Fan) → ((f : Fan) → shown (move f) o ≡ shown f o) → (fans : List Fan) (i : ℕ)
+      → shown (fanAt (map move fans) i) o ≡ shown (fanAt fans i) o
+  all-still move keeps fans i = map-keeps (λ (f : Fan). shown f o) move keeps fans i noFan
 
   one-still : (k : ℕ) (f : Fan) (fans : List Fan) (i : ℕ) → shown f o ≡ shown (fanAt fans k) o → shown (fanAt (set fans k f) i) o ≡ shown (fanAt fans i) o
   one-still k f fans i e = set-keeps (λ (g : Fan). shown g o) fans k f i noFan e
@@ -109,12 +115,12 @@ aside : (c d : Chip) → d .configuration ≡ c .configuration → d .lock ≡ c
 aside c d e l f = same c d e l (λ i o k. ap (λ (fans : List Fan). shown (fanAt fans i) o) f)
 
 tick-same : (c : Chip) → Same c (chipTicked c)
-tick-same c = same c (chipTicked c) (tick-rest c .0) (tick-rest c .1) (λ i o l. rw (tick-fans c) (all-still o l (tickMove c) (c .fans) i))
+tick-same c = same c (chipTicked c) (tick-rest c .0) (tick-rest c .1) (λ i o l. rw (tick-fans c) (all-still o l (tickMove c) (tick-still o l c) (c .fans) i))
 
 read-same : (n : ℕ) (c : Chip) → Same c (readOut n c)
 read-same n c register g =
     read-keeps (λ (d : Chip). shownOf d register) n c (λ d p. aside d _ refl refl refl register g) (λ d. aside d _ refl refl refl register g)
-    (λ d which. same d _ refl refl (λ i o l. all-still o l (Clear which) (d .fans) i) register g)
+    (λ d which. same d _ refl refl (λ i o l. all-still o l (moveOf (Clear which)) (clear-still o l which) (d .fans) i) register g)
 
 -- a write that is stored while locked is to no guarded register
 unguarded : (c : Chip) (address : ℕ) → isLocked c ≡ true → storesAt c address ≡ true → not (guarded (registerOf address)) ≡ true

@@ -17,7 +17,7 @@ use Rattle.chip.specs.State.{withPointer}
 use Rattle.chip.specs.Map.{registerOf}
 use Rattle.chip.specs.Registers.{fanStored, shownAt, clearedAt, writtenAt}
 use Rattle.chip.proofs.Moves.{cleared-keeps, stored-keeps, written-keeps}
-use Rattle.emc2305.specs.Transfers.{passed, byteWritten, inTurn, sent, byteRead, replyOf}
+use Rattle.emc2305.specs.Transfers.{pointerPast, passed, byteWritten, inTurn, sent, byteRead, replyOf}
 use Rattle.emc2305.specs.Promises.{Pointer, ReplyBytes, pointerAfter}
 use Rattle.emc2305.proofs.Turns.{reply-length}
 
@@ -38,7 +38,7 @@ none-passed : (n p : ℕ) → p < 256 → p ≡ pointerAfter n 0 p
 none-passed n p h = by-test (leb n 1) (λ t. rw t) (λ t. rw t (omega arith))
 
 one-passed : (n : ℕ) (c : Chip) (p k : ℕ) → c .pointer ≡ pointerAfter n k p → passed n c .pointer ≡ pointerAfter n (suc k) p
-unfolding passed
+unfolding pointerPast
 one-passed n c p k e = by-test (leb n 1) (λ t. rw t (rw t at e)) (λ t. rw t (rw (rw t at e) (omega arith)))
 
 -- after bytes are written in turn, behind k that were before

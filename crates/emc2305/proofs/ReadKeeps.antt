@@ -3,9 +3,7 @@ use mathlib.Core.Path.{_≡_, _∙_}
 use mathlib.Core.Bool.{false}
 use mathlib.Core.List.{map}
 use Prim.Native.Nat.{ℕ}
-use lib.Dec.{leb}
 use Rattle.laws.proofs.Repeat.{repeated-keeps}
-use Rattle.laws.proofs.Tests.{by-test}
 use Rattle.chip.specs.declared.Bit.{Bit}
 use Rattle.chip.specs.declared.Chip.{Chip}
 use Rattle.chip.specs.declared.Move.the-variants.{Clear}
@@ -18,8 +16,7 @@ use Rattle.emc2305.specs.Transfers.{passed, byteRead, readOut}
 
 module _ {B : Type 0} (v : Chip → B) where
   pub passed-keeps : (n : ℕ) (c : Chip) → ((p : ℕ) → v (withPointer p c) ≡ v c) → v (passed n c) ≡ v c
-  unfolding passed
-  passed-keeps n c h = by-test (leb n 1) (λ t. rw t) (λ t. rw t (h _))
+  passed-keeps n c h = h _
 
   -- a read of n bytes
   pub read-keeps : (n : ℕ) (c : Chip) → ((d : Chip) (p : ℕ) → v (withPointer p d) ≡ v d) → ((d : Chip) → v (withExpired false d) ≡ v d)

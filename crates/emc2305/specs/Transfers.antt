@@ -9,9 +9,13 @@ use Rattle.chip.specs.declared.Chip.{Chip}
 use Rattle.chip.specs.State.{withPointer}
 use Rattle.chip.specs.Registers.{shownAt, clearedAt, writtenAt}
 
--- after a data byte of n: with one the pointer stays, with two or more it goes up by one, FFh to 00h
-unfoldable pub passed : ℕ → Chip → Chip
-passed n c = cond (leb n 1) c (withPointer ((c .pointer + 1) % 256) c)
+-- the pointer after a data byte of n: with one it stays, with two or more it goes up by one, FFh to 00h
+unfoldable pub pointerPast : ℕ → ℕ → ℕ
+pointerPast n pointer = cond (leb n 1) pointer ((pointer + 1) % 256)
+
+-- the chip after it
+abbrev pub passed : ℕ → Chip → Chip
+passed n c = withPointer (pointerPast n (c .pointer)) c
 
 -- a data byte of n is written to the register at the pointer
 unfoldable pub byteWritten : ℕ → ℕ → Chip → Chip

@@ -19,19 +19,19 @@ pub fn step(chip: Chip, log: &[u8], event: Event, reply: &mut [u8]) -> Answer
     ensures { λ r. ⌜ (r ≡ stepped chip (now (log .entry)) event (length (now (reply .entry)))) × (now (reply .exit) ≡ replyAfter chip (now (log .entry)) event (now (reply .entry))) ⌝ }
 {
     let number = step_number(chip.powered, chip.address, log, event, reply.len());
-    if number == TAKEN {
-        let laid = reply_length(log, event);
-        Answer {
-            number: TAKEN,
-            laid,
-            chip: taken(chip, log, event, laid, reply),
-        }
-    } else {
-        Answer {
+    if number != TAKEN {
+        return Answer {
             number,
             laid: 0,
             chip,
-        }
+        };
+    }
+    let laid = reply_length(log, event);
+    let next = taken(chip, log, event, laid, reply);
+    Answer {
+        number: TAKEN,
+        laid,
+        chip: next,
     }
 }
 

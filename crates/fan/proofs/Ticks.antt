@@ -1,7 +1,7 @@
 -- Ticks under ramp control.
-use mathlib.Core.Path.{_≡_, ap, _∙_}
+use mathlib.Core.Path.{_≡_, refl, sym, ap, _∙_}
 use mathlib.Core.Bool.{true, false}
-use Prim.Native.Nat.{ℕ, zero, suc, _+_, _*_, _/_, _%_, _≤_, _<_}
+use Prim.Native.Nat.{ℕ, zero, suc, _+_, _-_, _*_, _/_, _%_, _≤_, _<_}
 use native.Mathlib.Omega.{arith}
 use native.Mathlib.Nat.{add-zero, mul-zero, mul-suc, mod-lt, mod-eq-of-lt, div-eq-of-lt}
 use native.Mathlib.Numerals.{add-one}
@@ -9,15 +9,16 @@ use lib.Dec.{leb}
 use borrow.Author.Tests.{leb-true, leb-false}
 use Rattle.laws.specs.Repeat.{repeated}
 use Rattle.laws.proofs.Divide.{one-more, one-round}
-use Rattle.laws.proofs.Tests.{by-test}
+use Rattle.laws.proofs.Repeat.{repeated-add}
+use Rattle.laws.proofs.Tests.{by-test, or-left, or-right}
 use Rattle.fan.specs.declared.Fan.{Fan}
 use Rattle.fan.specs.State.{withDrive, withClock}
 use Rattle.fan.specs.Ramp.{moved}
 use Rattle.fan.specs.Drive.{goal, underRamp, step, period}
-use Rattle.fan.specs.Tick.{updated, counted, ticked}
+use Rattle.fan.specs.Tick.{updated, counted, ticked, busy}
 use Rattle.fan.specs.Promises.{RampTicks, PastPeriod}
 use Rattle.fan.proofs.TableRules.{period-some}
-use Rattle.fan.proofs.Steps.{waits, acts, ticks-ramp}
+use Rattle.fan.proofs.Steps.{waits, acts, ticks-ramp, ticks-still}
 use Rattle.fan.proofs.Ramps.{stays, moved-twice}
 
 -- a fan with another drive and clock
@@ -68,3 +69,36 @@ ramp-ticks (suc n) f ramp still h =
 pub past-period : PastPeriod
 unfolding updated
 past-period f ramp still h = ticks-ramp f still ramp ∙ acts f h
+
+-- as long as no update comes, the clock counts n and nothing else moves
+pub short-ticks : (n : ℕ) (f : Fan) → underRamp f ≡ true → f .spin .running ≡ false → f .clock + n < period f
+    → repeated n ticked f ≡ withClock (f .clock + n) f
+short-ticks n f ramp still h =
+    ramp-ticks n f ramp still (omega arith)
+    ∙ rw (mod-eq-of-lt h, div-eq-of-lt h, mul-zero, stays (f .drive) (goal f))
+
+-- a clock that has acted is below its period, with ramp control and spin-up as they were
+pub acted : (f g : Fan) → underRamp f ≡ true → f .spin .running ≡ false → period f ≤ f .clock → g ≡ counted f
+    → (underRamp g ≡ true) × (g .spin .running ≡ false) × (g .clock < period g)
+unfolding updated underRamp
+acted f g ramp still h e = rw (e ∙ acts f (omega arith)) (ramp, still, period-some f)
+
+-- the first of n ticks, then the rest
+pub first-tick : (n : ℕ) (f g : Fan) → 1 ≤ n → g ≡ ticked f → repeated (n - 1) ticked g ≡ repeated n ticked f
+unfolding repeated
+first-tick n f g h e =
+    let p : 1 + (n - 1) ≡ n = omega arith in
+    ap (λ (x : Fan). repeated (n - 1) ticked x) e
+    ∙ sym (repeated-add 1 (n - 1) ticked f)
+    ∙ ap (λ (k : ℕ). repeated k ticked f) p
+
+-- out of spin-up and without ramp control a fan stays as it is
+pub still-ticks : (n : ℕ) (f : Fan) → f .spin .running ≡ false → underRamp f ≡ false → repeated n ticked f ≡ f
+unfolding repeated
+still-ticks zero f e r = refl
+still-ticks (suc n) f e r = ap ticked (still-ticks n f e r) ∙ ticks-still f e r
+
+-- so does one that is not busy
+pub idle : (n : ℕ) (f : Fan) → busy f ≡ false → repeated n ticked f ≡ f
+idle n f h =
+    still-ticks n f (or-left (f .spin .running) (underRamp f) h) (or-right (f .spin .running) (underRamp f) h)

@@ -1,6 +1,6 @@
 -- A tick: a move from one fan state to the next.
-use Prim.Native.Nat.{ℕ, _+_}
-use mathlib.Core.Bool.{cond}
+use Prim.Native.Nat.{_+_}
+use mathlib.Core.Bool.{Bool, cond, _||_}
 use lib.Dec.{leb}
 use Rattle.fan.specs.declared.Fan.{Fan}
 use Rattle.fan.specs.State.{withDrive, withClock}
@@ -19,3 +19,7 @@ counted f = cond (leb (period f) (f .clock + 1)) (updated f) (withClock (f .cloc
 -- the update clock counts under ramp control and not in spin-up
 unfoldable pub ticked : Fan → Fan
 ticked f = cond (f .spin .running) (spinTick f) (cond (underRamp f) (counted f) f)
+
+-- a tick changes something: a spin-up runs, or the update clock counts
+abbrev pub busy : Fan → Bool
+busy f = f .spin .running || underRamp f

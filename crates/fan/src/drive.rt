@@ -10,10 +10,12 @@ use crate::SETTING;
 use crate::TARGET_HIGH;
 use crate::tables;
 ghost use mathlib.Core.Path.{_≡_};
-ghost use Prim.Native.Nat.{max};
+ghost use mathlib.Core.Bool.{true, false};
+ghost use Prim.Native.Nat.{max, _<_};
+ghost use Rattle.laws.specs.Repeat.{repeated};
 ghost use Rattle.fan.specs.Ramp.{moved};
 ghost use Rattle.fan.specs.Drive.{driverOff, goal, underRamp, step, period, wished};
-ghost use Rattle.fan.specs.Tick.{counted, ticked};
+ghost use Rattle.fan.specs.Tick.{counted, ticked, busy};
 
 impl Fan {
     // Closed loop with target high FFh.
@@ -104,6 +106,76 @@ impl Fan {
         }
         self
     }
+
+    // Whether a tick changes anything: a spin-up runs, or the update clock counts.
+    pub fn is_busy(self) -> bool
+        ensures { λ r. ⌜ r ≡ busy self ⌝ }
+    {
+        self.spin.running || self.under_ramp()
+    }
+
+    // So many ticks. A spin-up takes them one by one, the ramp all at once.
+    pub fn ticks(self, count: u16) -> Fan
+        ensures { λ r. ⌜ r ≡ repeated count ticked self ⌝ }
+    {
+        let mut fan = self;
+        let mut left = count;
+        while fan.spin.running {
+            if left == 0 {
+                return fan;
+            }
+            fan = fan.spin_tick();
+            left -= 1;
+        }
+        fan.still_ticks(left)
+    }
+
+    // So many ticks out of spin-up.
+    fn still_ticks(self, count: u16) -> Fan
+        requires { ⌜ self .spin .running ≡ false ⌝ }
+        ensures { λ r. ⌜ r ≡ repeated count ticked self ⌝ }
+    {
+        if self.under_ramp() {
+            self.counted_ticks(count)
+        } else {
+            self
+        }
+    }
+
+    // So many ticks that the update clock counts. A clock past its period acts first.
+    fn counted_ticks(self, count: u16) -> Fan
+        requires { ⌜ (underRamp self ≡ true) × (self .spin .running ≡ false) ⌝ }
+        ensures { λ r. ⌜ r ≡ repeated count ticked self ⌝ }
+    {
+        if self.clock < self.period() {
+            self.ramped(count)
+        } else if count == 0 {
+            self
+        } else {
+            self.counted_tick().ramped(count - 1)
+        }
+    }
+
+    // So many ticks by the closed formula: a step for each whole period, and the clock at what is left.
+    fn ramped(mut self, count: u16) -> Fan
+        requires { ⌜ (underRamp self ≡ true) × (self .spin .running ≡ false) × (self .clock < period self) ⌝ }
+        ensures { λ r. ⌜ r ≡ repeated count ticked self ⌝ }
+    {
+        let counted = self.clock as u32 + count as u32;
+        let period = self.period() as u32;
+        // No division where no update comes.
+        if counted < period {
+            self.clock = counted as u8;
+            return self;
+        }
+        self.drive = moved(
+            self.drive,
+            self.goal(),
+            self.step() as u32 * (counted / period),
+        );
+        self.clock = (counted % period) as u8;
+        self
+    }
 }
 
 fn larger(a: u8, b: u8) -> u8
@@ -112,19 +184,26 @@ fn larger(a: u8, b: u8) -> u8
     if a < b { b } else { a }
 }
 
-// The drive moved toward the goal by the smaller of step and distance.
+// One ramp update.
 pub fn ramp_update(drive: u8, goal: u8, step: u8) -> u8
     ensures { λ r. ⌜ r ≡ moved drive goal step ⌝ }
 {
+    moved(drive, goal, step as u32)
+}
+
+// The drive moved toward the goal by the smaller of `by` and the distance.
+fn moved(drive: u8, goal: u8, by: u32) -> u8
+    ensures { λ r. ⌜ r ≡ moved drive goal by ⌝ }
+{
     if drive <= goal {
-        if step < goal - drive {
-            drive + step
+        if by < (goal - drive) as u32 {
+            drive + by as u8
         } else {
             goal
         }
     } else {
-        if step < drive - goal {
-            drive - step
+        if by < (drive - goal) as u32 {
+            drive - by as u8
         } else {
             goal
         }

@@ -3,6 +3,7 @@ use mathlib.Core.Path.{_≡_, refl, sym, ap, _∙_}
 use mathlib.Core.List.{List, [], _∷_, map}
 use Prim.Native.Nat.{ℕ, zero, suc, _+_, _≤_, _<_}
 use native.Mathlib.Nat.{le-of-suc-le-suc, not-suc-le-zero}
+use native.Mathlib.Omega.{arith}
 use native.Mathlib.Numerals.{add-one}
 use lib.ListN.{length, getD, set, length-map, List·getD-map}
 use lib.Seq.{map-set-same}
@@ -41,6 +42,12 @@ module _ {A : Type 0} where
   -- where every element is changed, each is the one that was there, changed
   pub getD-map : (f : A → A) (l : List A) (i : ℕ) (d : A) → i < length l → getD (map f l) i d ≡ f (getD l i d)
   getD-map f l i d h = same-entry (map f l) i d (f d) (rw (length-map l f) h) ∙ List·getD-map f l i d
+
+  -- a change that leaves every element leaves the list
+  pub map-still : (f : A → A) (l : List A) (d : A) → ((i : ℕ) → i < length l → f (getD l i d) ≡ getD l i d) → map f l ≡ l
+  map-still f [] d still = refl
+  map-still f (x ∷ l) d still =
+      rw (still 0 (omega arith)) (ap (λ (r : List A). x ∷ r) (map-still f l d (λ i h. still (suc i) (omega arith))))
 
   -- what the change keeps of an element, in the list and past its end
   pub map-keeps : {B : Type 0} (v : A → B) (f : A → A) → ((x : A) → v (f x) ≡ v x) → (l : List A) (i : ℕ) (d : A)

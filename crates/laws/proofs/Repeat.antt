@@ -1,5 +1,5 @@
 -- Laws on a step taken n times.
-use mathlib.Core.Path.{_≡_, refl, ap, _∙_}
+use mathlib.Core.Path.{_≡_, refl, sym, ap, _∙_}
 use Prim.Native.Nat.{ℕ, zero, suc, _+_, _-_, _≤_}
 use native.Mathlib.Omega.{arith}
 use native.Mathlib.Nat.{add-zero, add-suc}
@@ -17,6 +17,11 @@ pub repeated-add : {A : Type 0} (m n : ℕ) (f : A → A) (x : A) → repeated (
 unfolding repeated
 repeated-add m zero f x = rw (add-zero m)
 repeated-add m (suc n) f x = rw (add-suc m n) (ap f (repeated-add m n f x))
+
+-- of n steps the first m, then the rest
+pub first-steps : {A : Type 0} (m n : ℕ) (f : A → A) (x : A) → m ≤ n → repeated (n - m) f (repeated m f x) ≡ repeated n f x
+first-steps m n f x h =
+    let e : m + (n - m) ≡ n = omega arith in sym (repeated-add m (n - m) f x) ∙ ap (λ (k : ℕ). repeated k f x) e
 
 -- what each step keeps, n steps keep
 pub repeated-keeps : {A B : Type 0} (v : A → B) (n : ℕ) (f : A → A) (x : A) → ((y : A) → v (f y) ≡ v y) → v (repeated n f x) ≡ v x

@@ -15,7 +15,7 @@ use Rattle.chip.specs.Map.{registerOf}
 use Rattle.chip.specs.Fans.{bitsOf}
 use Rattle.chip.specs.Registers.{atDefaults, fanStored, shownAt, clearedAt, storesAt, writtenAt}
 use Rattle.chip.specs.Ticks.{allFired, fansTicked, chipTicked}
-use Rattle.emc2305.specs.Transfers.{passed, byteWritten, inTurn, sent, byteRead, replyOf}
+use Rattle.emc2305.specs.Transfers.{pointerPast, byteWritten, inTurn, sent, byteRead, replyOf}
 use Rattle.emc2305.specs.Step.{stepNumber, taken, replyTo, stepped}
 use Rattle.emc2305.specs.Traffic.{anyStoresTo, sentStoresTo}
 use Rattle.replay.specs.Records.{recordsFrom, recordsOf}
@@ -28,17 +28,17 @@ use Rattle.promises.specs.Busy.{numbersOf, BusyRamp, ClosedRamp, TraceRa
 use Rattle.promises.specs.Examples.{Examples}
 
 pub examples-hold : Examples
-unfolding repeated rangeNumber readAt locked shown stores powerOn moved goal underRamp spinDrive started tooSlow spinFailed spinOver spinTick updated counted ticked wishTaken clockSet settled written withReading stall sampled fired registerOf bitsOf atDefaults fanStored shownAt storesAt writtenAt passed byteWritten inTurn sent allFired fansTicked chipTicked stepNumber taken stepped afterAll
+unfolding repeated rangeNumber readAt locked shown stores powerOn moved goal underRamp spinDrive started tooSlow spinFailed spinOver spinTick updated counted ticked wishTaken clockSet settled written withReading stall sampled fired registerOf bitsOf atDefaults fanStored shownAt storesAt writtenAt pointerPast byteWritten inTurn sent allFired fansTicked chipTicked stepNumber taken stepped afterAll
 examples-hold = refl
 
 pub busy-ramp : BusyRamp
-unfolding repeated rangeNumber locked stores powerOn moved goal underRamp wished spinDrive started tooSlow spinFailed spinOver spinTick updated counted ticked wishTaken clockSet settled written withReading stall sampled registerOf atDefaults fanStored storesAt writtenAt clearedAt passed byteWritten inTurn sent byteRead allFired fansTicked chipTicked stepNumber taken stepped anyStoresTo sentStoresTo afterAll throughout takenTicks updatesIn updatesMade numbersOf
+unfolding repeated rangeNumber locked stores powerOn moved goal underRamp wished spinDrive started tooSlow spinFailed spinOver spinTick updated counted ticked wishTaken clockSet settled written withReading stall sampled registerOf atDefaults fanStored storesAt writtenAt clearedAt pointerPast byteWritten inTurn sent byteRead allFired fansTicked chipTicked stepNumber taken stepped anyStoresTo sentStoresTo afterAll throughout takenTicks updatesIn updatesMade numbersOf
 busy-ramp = ((refl, refl, refl, refl, refl, refl, refl, omega arith), refl, refl, refl, refl, refl, refl)
 
 pub closed-ramp : ClosedRamp
-unfolding repeated rangeNumber locked stores powerOn moved goal underRamp wished spinDrive started tooSlow spinFailed spinOver spinTick updated counted ticked wishTaken clockSet settled written withReading stall sampled registerOf atDefaults fanStored storesAt writtenAt passed byteWritten inTurn sent allFired fansTicked chipTicked stepNumber taken stepped anyStoresTo sentStoresTo afterAll throughout takenTicks numbersOf
+unfolding repeated rangeNumber locked stores powerOn moved goal underRamp wished spinDrive started tooSlow spinFailed spinOver spinTick updated counted ticked wishTaken clockSet settled written withReading stall sampled registerOf atDefaults fanStored storesAt writtenAt pointerPast byteWritten inTurn sent allFired fansTicked chipTicked stepNumber taken stepped anyStoresTo sentStoresTo afterAll throughout takenTicks numbersOf
 closed-ramp = (refl, (refl, refl, refl, refl, refl, refl, refl, omega arith), refl, refl, refl, refl)
 
 pub trace-ramp : TraceRamp
-unfolding repeated rangeNumber readAt locked shown stores powerOn moved goal underRamp wished spinDrive started tooSlow spinFailed spinOver spinTick updated counted ticked wishTaken clockSet settled written withReading stall sampled registerOf atDefaults fanStored shownAt storesAt writtenAt clearedAt passed byteWritten inTurn sent byteRead replyOf allFired fansTicked chipTicked stepNumber taken replyTo stepped anyStoresTo sentStoresTo recordsFrom recordsOf runOver ended runOf walkOver handedOver afterAll throughout takenTicks
+unfolding repeated rangeNumber readAt locked shown stores powerOn moved goal underRamp wished spinDrive started tooSlow spinFailed spinOver spinTick updated counted ticked wishTaken clockSet settled written withReading stall sampled registerOf atDefaults fanStored shownAt storesAt writtenAt clearedAt pointerPast byteWritten inTurn sent byteRead replyOf allFired fansTicked chipTicked stepNumber taken replyTo stepped anyStoresTo sentStoresTo recordsFrom recordsOf runOver ended runOf walkOver handedOver afterAll throughout takenTicks
 trace-ramp = ((refl, refl, refl, refl, refl, refl, refl, omega arith), refl, refl, refl, refl, refl)

@@ -1,9 +1,10 @@
 -- The watchdog: which watch runs, and how many ticks it has counted.
 use mathlib.Core.Bool.{Bool, true, false, cond}
-use Prim.Native.Nat.{ℕ, _+_}
+use Prim.Native.Nat.{ℕ, _+_, _-_, min}
 use lib.Dec.{leb}
 use Rattle.watchdog.specs.declared.Watch.{Watch}
 use Rattle.watchdog.specs.declared.Watch.the-variants.{Off, PowerUp, Continuous}
+use Rattle.watchdog.specs.declared.Quiet.{Quiet}
 
 -- no watch runs
 abbrev pub isOff : Watch → Bool
@@ -54,3 +55,19 @@ continuousEnded (Continuous count) = Off
 -- with WD_EN 1 it starts continuous watch at 0, in place of whichever ran
 abbrev pub configured : Bool → Watch → Watch
 configured enabled watch = cond enabled (Continuous 0) (continuousEnded watch)
+
+-- of the next n ticks, those before the one that makes it fire
+abbrev pub quietTicks : ℕ → Watch → ℕ
+quietTicks n Off = n
+quietTicks n (PowerUp count) = min n (319 - count)
+quietTicks n (Continuous count) = min n (319 - count)
+
+-- the watch after n ticks that do not make it fire
+abbrev pub counted : ℕ → Watch → Watch
+counted n Off = Off
+counted n (PowerUp count) = PowerUp (count + n)
+counted n (Continuous count) = Continuous (count + n)
+
+-- both
+abbrev pub quietly : ℕ → Watch → Quiet
+quietly n watch = record { ticks = quietTicks n watch; watch = counted (quietTicks n watch) watch }

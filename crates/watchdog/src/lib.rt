@@ -1,15 +1,25 @@
 // The watchdog: which watch runs, and how many ticks it has counted (document 01, 'Tach and watchdog').
 ghost use mathlib.Core.Path.{_≡_};
-ghost use Rattle.watchdog.specs.Watch.{inPowerUp, fires, watchTicked, fed, programmed, configured, reached};
+ghost use Prim.Native.Nat.{_-_, min};
+ghost use Rattle.watchdog.specs.Watch.{inPowerUp, fires, watchTicked, fed, programmed, configured, reached, quietly};
 
 // The ticks after which a watch fires.
 const LIMIT: u32 = 320;
+
+// The count at which one more tick makes it fire.
+const LAST: u16 = 319;
 
 // Only one watch runs at a time. Each holds its count of ticks.
 pub enum Watch {
     Off,
     PowerUp(u16),
     Continuous(u16),
+}
+
+// What passes before a watch fires: how many ticks, and the watch after them.
+pub struct Quiet {
+    pub ticks: u16,
+    pub watch: Watch,
 }
 
 impl Watch {
@@ -58,6 +68,32 @@ impl Watch {
         }
     }
 
+    // Of so many ticks, those before the one that makes it fire.
+    pub fn quiet(self, count: u16) -> Quiet
+        ensures { λ r. ⌜ r ≡ quietly count self ⌝ }
+    {
+        match self {
+            Watch::Off => Quiet {
+                ticks: count,
+                watch: Watch::Off,
+            },
+            Watch::PowerUp(passed) => {
+                let ticks = before_limit(passed, count);
+                Quiet {
+                    ticks,
+                    watch: Watch::PowerUp(passed + ticks),
+                }
+            }
+            Watch::Continuous(passed) => {
+                let ticks = before_limit(passed, count);
+                Quiet {
+                    ticks,
+                    watch: Watch::Continuous(passed + ticks),
+                }
+            }
+        }
+    }
+
     // A transfer taken: it feeds the continuous watch alone.
     pub fn fed(self) -> Watch
         ensures { λ r. ⌜ r ≡ fed self ⌝ }
@@ -100,4 +136,15 @@ fn reached(count: u16) -> bool
     ensures { λ r. ⌜ r ≡ reached count ⌝ }
 {
     LIMIT <= count as u32 + 1
+}
+
+// Of so many ticks, those before the 320th.
+fn before_limit(passed: u16, count: u16) -> u16
+    ensures { λ r. ⌜ r ≡ min count (319 - passed) ⌝ }
+{
+    if reached(passed) {
+        return 0;
+    }
+    let rest = LAST - passed;
+    if count < rest { count } else { rest }
 }

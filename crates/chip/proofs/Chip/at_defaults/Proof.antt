@@ -7,9 +7,12 @@ use Rattle.chip.proofs.Chip.at_defaults.Tie as tie
 reset-requires : tie.Need-reset-requires
 reset-requires c κs = search needs
 
+each-requires : tie.Need-each-requires
+each-requires c κs = search needs
+
 returns : tie.Need-returns
 unfolding atDefaults
-returns c = rw (c .reset .ensures)
+returns c = rw (c .each .ensures)
 
 pub at-defaults-spec : {M : Type 1} → statement M
-at-defaults-spec = tie.close (tie.spec reset-requires returns)
+at-defaults-spec = tie.close (tie.spec reset-requires each-requires returns)

@@ -1,64 +1,139 @@
 -- `emc2305::transfers::read_out` meets its contract.
-use mathlib.Core.Path.{_≡_, refl, ap, _∙_}
+use mathlib.Core.Logic.{⊎-elim}
+use mathlib.Core.Path.{_≡_, refl, sym, ap, _∙_}
 use Prim.Native.Nat.{ℕ, _-_, _≤_}
 use native.Mathlib.Omega.{arith}
-use lib.ListN.{length, length-set}
+use lib.ListN.{length, set, length-set}
 use borrow.Author.Needs.{needs}
 use Rattle.laws.specs.Repeat.{repeated}
 use Rattle.laws.specs.Buffer.{laidOver}
 use Rattle.laws.proofs.Repeat.{once-more}
 use Rattle.laws.proofs.Cases.{cases}
+use Rattle.chip.specs.State.{withPointer}
+use Rattle.chip.proofs.Maps.{of-fan, nothing-outside}
 use Rattle.emc2305.specs.Transfers.{byteRead, replyOf}
 use Rattle.emc2305.proofs.Turns.{reply-next}
+use Rattle.emc2305.proofs.Blocks.{in-fans, SameShown, ReadOne, fan-read, none-read, own-read}
 use Rattle.emc2305.proofs.transfers.read_out.Statement.{statement}
 use Rattle.emc2305.proofs.transfers.read_out.Tie as tie
 
 abbrev Inv-loop : tie.InvT-loop
-Inv-loop chip₀ n reply₀ i₀ chip reply i =
-    (i ≤ n) × (chip ≡ repeated i (byteRead n) chip₀) × (reply ≡ laidOver (replyOf n chip₀ i) reply₀) × (length reply ≡ length reply₀)
+Inv-loop chip₀ n reply₀ fans pointer₀ i₀ chip reply pointer i =
+    (i ≤ n) × (withPointer pointer chip ≡ repeated i (byteRead n) chip₀) × (reply ≡ laidOver (replyOf n chip₀ i) reply₀)
+    × (length reply ≡ length reply₀) × SameShown (chip .fans) fans
 
 abbrev μ-loop : tie.MeasureT-loop
-μ-loop chip₀ n reply₀ i₀ chip reply i = n - i
+μ-loop chip₀ n reply₀ fans pointer₀ i₀ chip reply pointer i = n - i
 
 loop-holds : tie.Need-loop-holds Inv-loop μ-loop
 unfolding repeated replyOf
-loop-holds c = (omega arith, refl, refl, refl)
+loop-holds c = (omega arith, refl, refl, refl, λ k o. refl)
+
+is-of-fan-requires : tie.Need-is-of-fan-requires Inv-loop μ-loop
+is-of-fan-requires c κs = search cases
+
+-- the address of a fan's, and that of no register
+in-fan : (c : tie.Then1 Inv-loop μ-loop) → (0x30 ≤ c .before .before .before .loop .pointer) × (c .before .before .before .loop .pointer ≤ 0x7F)
+in-fan c = in-fans (c .before .before .before .loop .pointer) _ (c .before .is-of-fan .ensures) (c .if1 .taken)
+
+cast-fan : tie.Need-cast-fan Inv-loop μ-loop
+cast-fan c = let h = in-fan c in record { fits = omega (arith, h .1) }
+
+sub-fan : tie.Need-sub-fan Inv-loop μ-loop
+sub-fan c = in-fan c .0
+
+mul-fan : tie.Need-mul-fan Inv-loop μ-loop
+mul-fan c = let h = in-fan c in omega (arith, h .1)
+
+array-copy-out-fan : tie.Need-array-copy-out-fan Inv-loop μ-loop
+array-copy-out-fan c = let h = in-fan c in omega (arith, h .1)
+
+cast-register : tie.Need-cast-register Inv-loop μ-loop
+cast-register c = let h = in-fan (c .before) in record { fits = omega (arith, h .1) }
 
 register-requires : tie.Need-register-requires Inv-loop μ-loop
 register-requires c κs = search cases
 
 slice-write-reply : tie.Need-slice-write-reply Inv-loop μ-loop
-slice-write-reply c = let h = c .before .before .loop .inv .3 in omega arith
+slice-write-reply c = search cases
 
-byte-read-requires : tie.Need-byte-read-requires Inv-loop μ-loop
-byte-read-requires c κs = search cases
+is-outside-requires : tie.Need-is-outside-requires Inv-loop μ-loop
+is-outside-requires c κs = search cases
+
+slice-write-reply-2 : tie.Need-slice-write-reply-2 Inv-loop μ-loop
+slice-write-reply-2 c = search cases
+
+register-requires-2 : tie.Need-register-requires-2 Inv-loop μ-loop
+register-requires-2 c κs = search cases
+
+slice-write-reply-3 : tie.Need-slice-write-reply-3 Inv-loop μ-loop
+slice-write-reply-3 c = search cases
+
+cleared-requires : tie.Need-cleared-requires Inv-loop μ-loop
+cleared-requires c κs = search cases
+
+pointer-past-requires : tie.Need-pointer-past-requires Inv-loop μ-loop
+pointer-past-requires c κs = search cases
 
 add-i : tie.Need-add-i Inv-loop μ-loop
 add-i c = search cases
 
 loop-less : tie.Need-loop-less Inv-loop μ-loop
-loop-less c = omega arith
+loop-less c = search cases
+
+-- a byte was laid, and read as it should be
+read : (c : tie.After-pointer-past Inv-loop μ-loop)
+    → (byte : ℕ)
+    × (c .before .if1 .reply ≡ set (c .before .before .before .before .loop .reply) (c .before .before .before .before .loop .i) byte)
+    × ReadOne (c .before .before .before .before .before .before .before .args .n) (c .before .before .before .before .loop .pointer) byte
+    (c .before .before .before .before .loop .chip) (c .before .if1 .chip) (c .before .before .before .before .before .before .before .args .chip .fans)
+read c =
+    let l = c .before .before .before .before .loop in
+    let a = c .before .before .before .before .before .before .before .args in
+    let next = c .before .if1 .chip in
+    ⊎-elim
+    (λ w. (
+      w .2 .result,
+      w .4,
+      fan-read (a .n) (l .pointer) (w .2 .result) (l .chip) next (a .chip .fans) (l .inv .4) _ _
+          (of-fan (l .pointer) (sym (c .before .before .is-of-fan .ensures) ∙ w .0 .taken)) (w .2 .ensures) (w .3),
+    ))
+    (λ v.
+    ⊎-elim
+    (λ w. (
+      0,
+      w .4,
+      none-read (a .n) (l .pointer) 0 (l .chip) next (a .chip .fans) (l .inv .4) (nothing-outside (l .pointer) (sym (w .1 .ensures) ∙ w .2 .taken)) refl (w .3),
+    ))
+    (λ w. (
+      w .3 .result,
+      w .6,
+      own-read (a .n) (l .pointer) (w .3 .result) (l .chip) next (a .chip .fans) (l .inv .4) (w .3 .ensures) (w .5 ∙ w .4 .ensures),
+    ))
+    v)
+    (c .before .if1 .came)
 
 loop-again : tie.Need-loop-again Inv-loop μ-loop
 loop-again c =
-    let b5 = c .before .before .before .before .before in
-    let b3 = c .before .before .before in (
+    let l = c .before .before .before .before .loop in
+    let a = c .before .before .before .before .before .before .before .args in
+    let r = read c in (
       omega arith,
-      once-more _ _ _ _ _ (b3 .loop .inv .1) (c .byte-read .ensures),
-      reply-next _ (b3 .loop .i) _ _ (b5 .args .reply .now) _ _ (b3 .loop .inv .1) (b3 .loop .inv .2) (let h = b3 .loop .inv .3 in search needs)
-          (c .before .register .ensures),
-      length-set (b3 .loop .reply) (b3 .loop .i) (c .before .register .result) ∙ b3 .loop .inv .3,
+      ap (λ (p : ℕ). withPointer p (c .before .if1 .chip)) (c .pointer-past .ensures) ∙ once-more _ _ _ _ _ (l .inv .1) (r .2 .1),
+      r .1 ∙ reply-next (a .n) (l .i) (a .chip) _ (a .reply .now) _ _ (l .inv .1) (l .inv .2) (let h = l .inv .3 in search needs) (r .2 .0),
+      ap length (r .1) ∙ length-set (l .reply) (l .i) (r .0) ∙ l .inv .3,
+      r .2 .2,
     )
 
 same-length : tie.Need-same-length Inv-loop μ-loop
-same-length c = c .before .loop .inv .3
+same-length c = search cases
 
 returns : tie.Need-returns Inv-loop μ-loop
 returns c =
-    let a = c .before .before .before .args in (
-      c .before .loop .inv .1 ∙ ap (λ (k : ℕ). repeated k (byteRead (a .n)) (a .chip)) (omega arith),
-      c .before .loop .inv .2
-          ∙ ap (λ (k : ℕ). laidOver (replyOf (a .n) (a .chip) k) (a .reply .now)) (omega arith),
+    let a = c .before .before .before .before .args in
+    let l = c .before .loop in (
+      l .inv .1 ∙ ap (λ (k : ℕ). repeated k (byteRead (a .n)) (a .chip)) (omega arith),
+      l .inv .2 ∙ ap (λ (k : ℕ). laidOver (replyOf (a .n) (a .chip) k) (a .reply .now)) (omega arith),
     )
 
 pub read-out-spec : {M : Type 1} → statement M
@@ -68,9 +143,20 @@ read-out-spec =
     Inv-loop
     μ-loop
     loop-holds
+    is-of-fan-requires
+    cast-fan
+    sub-fan
+    mul-fan
+    array-copy-out-fan
+    cast-register
     register-requires
     slice-write-reply
-    byte-read-requires
+    is-outside-requires
+    slice-write-reply-2
+    register-requires-2
+    slice-write-reply-3
+    cleared-requires
+    pointer-past-requires
     add-i
     loop-less
     loop-again
