@@ -4,11 +4,11 @@ use mathlib.Core.Bool.{Bool, true, false, cond, not, _||_, false≢true, true≢
 use Prim.Native.Nat.{ℕ, _-_, _/_, _%_, _≤_, _<_}
 use native.Mathlib.Omega.{arith}
 use lib.Dec.{leb, eqb}
-use borrow.Author.Tests.{le-leb, lt-leb, leb-true, leb-false, ne-eqb}
+use borrow.Author.Tests.{le-leb, lt-leb, leb-true, leb-false, eqb-true, ne-eqb}
 use Rattle.laws.proofs.Tests.{by-test, and-left, and-right, or-left, or-right}
 use Rattle.chip.specs.declared.Register.{Register}
 use Rattle.chip.specs.declared.Register.the-variants.{Configuration, Status, StallStatus, SpinStatus, DriveFailStatus, Enable, Output, OfFan, Lock, Identity, Undefined}
-use Rattle.chip.specs.Map.{within, outside, registerOf}
+use Rattle.chip.specs.Map.{within, ownWritable, outside, registerOf}
 
 module _ (a : ℕ) where
   above : (k : ℕ) → k < a → eqb a k ≡ false
@@ -139,6 +139,73 @@ of-no-fan a f =
     (either P (eqb a 0x29) (λ _. refl)
     (either P (within 0x2A 0x2D a) (λ _. refl)
     (either P (within 0x30 0x7F a) (λ t. absurd (true≢false (sym t ∙ f)))
+    (either P (eqb a 0xEF) (λ _. refl) (either P (within 0xFC 0xFF a) (λ _. refl) refl)))))))))
+
+-- a register that can be written
+abbrev pub canStore : Register → Bool
+canStore Configuration = true
+canStore Status = false
+canStore StallStatus = false
+canStore SpinStatus = false
+canStore DriveFailStatus = false
+canStore Enable = true
+canStore (Output i) = true
+canStore (OfFan i offset) = true
+canStore Lock = true
+canStore (Identity i) = false
+canStore Undefined = false
+
+-- none stands at an address that is neither a fan's nor one of the others
+pub stores-nowhere : (a : ℕ) → within 0x30 0x7F a ≡ false → ownWritable a ≡ false → canStore (registerOf a) ≡ false
+unfolding registerOf
+stores-nowhere a f g =
+    let P : Register → Type 0 = λ r. canStore r ≡ false in
+    let m = or-right (eqb a 0x20) (within 0x29 0x2D a || eqb a 0xEF) g in
+    let mid = or-left (within 0x29 0x2D a) (eqb a 0xEF) m in
+    either P (eqb a 0x20) (λ t. absurd (true≢false (sym t ∙ or-left (eqb a 0x20) (within 0x29 0x2D a || eqb a 0xEF) g)))
+    (either P (eqb a 0x24) (λ _. refl)
+    (either P (eqb a 0x25) (λ _. refl)
+    (either P (eqb a 0x26) (λ _. refl)
+    (either P (eqb a 0x27) (λ _. refl)
+    (either P (eqb a 0x29)
+    (λ t. let h : within 0x29 0x2D a ≡ true = rw (eqb-true a 0x29 t) refl in absurd (true≢false (sym h ∙ mid)))
+    (either P (within 0x2A 0x2D a)
+    (λ t.
+    let lo : 0x2A ≤ a = leb-true 0x2A a (and-left (leb 0x2A a) (leb a 0x2D) t) in
+    absurd (true≢false (sym (inside a 0x29 0x2D (omega arith) (up-to 0x2A 0x2D a t)) ∙ mid)))
+    (either P (within 0x30 0x7F a) (λ t. absurd (true≢false (sym t ∙ f)))
+    (either P (eqb a 0xEF) (λ t. absurd (true≢false (sym t ∙ or-right (within 0x29 0x2D a) (eqb a 0xEF) m)))
+    (either P (within 0xFC 0xFF a) (λ _. refl) refl)))))))))
+
+-- a register that a read clears something of
+abbrev pub canClear : Register → Bool
+canClear Configuration = false
+canClear Status = true
+canClear StallStatus = true
+canClear SpinStatus = true
+canClear DriveFailStatus = false
+canClear Enable = false
+canClear (Output i) = false
+canClear (OfFan i offset) = false
+canClear Lock = false
+canClear (Identity i) = false
+canClear Undefined = false
+
+-- none stands at an address that is not from 24h to 26h
+pub clears-nowhere : (a : ℕ) → within 0x24 0x26 a ≡ false → canClear (registerOf a) ≡ false
+unfolding registerOf
+clears-nowhere a f =
+    let P : Register → Type 0 = λ r. canClear r ≡ false in
+    let not-there : (k : ℕ) → within 0x24 0x26 k ≡ true → eqb a k ≡ true → ⊥
+    = λ k h t. true≢false (sym h ∙ rw (sym (eqb-true a k t)) f) in
+    either P (eqb a 0x20) (λ _. refl)
+    (either P (eqb a 0x24) (λ t. absurd (not-there 0x24 refl t))
+    (either P (eqb a 0x25) (λ t. absurd (not-there 0x25 refl t))
+    (either P (eqb a 0x26) (λ t. absurd (not-there 0x26 refl t))
+    (either P (eqb a 0x27) (λ _. refl)
+    (either P (eqb a 0x29) (λ _. refl)
+    (either P (within 0x2A 0x2D a) (λ _. refl)
+    (either P (within 0x30 0x7F a) (λ _. refl)
     (either P (eqb a 0xEF) (λ _. refl) (either P (within 0xFC 0xFF a) (λ _. refl) refl)))))))))
 
 -- nothing stands outside the stretches that have registers

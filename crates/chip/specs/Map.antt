@@ -24,6 +24,10 @@ registerOf address =
     (cond (within 0xFC 0xFF address) (Identity (address - 0xFC))
     Undefined)))))))))
 
+-- the registers that can be written and are no fan's: 20h, 29h, 2Ah to 2Dh, EFh
+abbrev pub ownWritable : ℕ → Bool
+ownWritable address = eqb address 0x20 || (within 0x29 0x2D address || eqb address 0xEF)
+
 -- no register stands outside 20h to 7Fh, EFh, and FCh to FFh
 abbrev pub outside : ℕ → Bool
 outside address = not (within 0x20 0x7F address || (eqb address 0xEF || within 0xFC 0xFF address))

@@ -7,8 +7,10 @@ mod status;
 mod ticks;
 
 use fan::Fan;
+pub use map::is_cleared;
 pub use map::is_of_fan;
 pub use map::is_outside;
+pub use map::is_own_writable;
 pub use map::register_of;
 pub use registers::fan_stores;
 use watchdog::Watch;

@@ -1,7 +1,7 @@
 // The register map: what stands at an address.
 use crate::Register;
 ghost use mathlib.Core.Path.{_≡_};
-ghost use Rattle.chip.specs.Map.{within, outside, registerOf};
+ghost use Rattle.chip.specs.Map.{within, ownWritable, outside, registerOf};
 
 // What stands at a register address.
 pub fn register_of(address: u8) -> Register
@@ -29,6 +29,28 @@ pub fn is_of_fan(address: u8) -> bool
 {
     match address {
         0x30..=0x7F => true,
+        _ => false,
+    }
+}
+
+// Whether a register that can be written, and is no fan's, stands at the address.
+pub fn is_own_writable(address: u8) -> bool
+    ensures { λ r. ⌜ r ≡ ownWritable address ⌝ }
+{
+    match address {
+        0x20 => true,
+        0x29..=0x2D => true,
+        0xEF => true,
+        _ => false,
+    }
+}
+
+// Whether a read of the address clears something.
+pub fn is_cleared(address: u8) -> bool
+    ensures { λ r. ⌜ r ≡ within 0x24 0x26 address ⌝ }
+{
+    match address {
+        0x24..=0x26 => true,
         _ => false,
     }
 }

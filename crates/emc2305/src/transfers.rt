@@ -38,7 +38,7 @@ fn in_turn(mut chip: Chip, bytes: &[u8]) -> Chip
                 fans[at] = fan.write(offset, byte);
                 chip = chip.programmed(offset, byte);
             }
-        } else if !chip::is_outside(pointer) {
+        } else if chip::is_own_writable(pointer) {
             chip = chip.write(pointer, byte);
         }
         pointer = pointer_past(pointer, n);
@@ -65,7 +65,9 @@ pub(crate) fn read_out(mut chip: Chip, n: usize, reply: &mut [u8]) -> Chip
             reply[i] = 0x00;
         } else {
             reply[i] = chip.register(pointer);
-            chip = chip.cleared(pointer);
+            if chip::is_cleared(pointer) {
+                chip = chip.cleared(pointer);
+            }
         }
         pointer = pointer_past(pointer, n);
         i += 1;

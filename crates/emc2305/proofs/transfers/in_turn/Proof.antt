@@ -6,10 +6,10 @@ use native.Mathlib.Omega.{arith}
 use lib.ListN.{length, getD, drop}
 use borrow.Author.Needs.{needs}
 use Rattle.laws.proofs.Cases.{cases}
-use Rattle.chip.proofs.Maps.{of-fan, of-no-fan, nothing-outside}
+use Rattle.chip.proofs.Maps.{of-fan, of-no-fan, stores-nowhere}
 use Rattle.emc2305.specs.Transfers.{pointerPast, byteWritten, inTurn}
 use Rattle.emc2305.proofs.Turns.{turn-next, turn-over}
-use Rattle.emc2305.proofs.Blocks.{not-false, in-fans, held, fan-stored, fan-refused, nowhere, own-byte}
+use Rattle.emc2305.proofs.Blocks.{in-fans, held, fan-stored, fan-refused, nowhere, own-byte}
 use Rattle.emc2305.proofs.transfers.in_turn.Statement.{statement}
 use Rattle.emc2305.proofs.transfers.in_turn.Tie as tie
 
@@ -63,8 +63,8 @@ array-set-from-fans c = let h = in-fan (c .before .before .before .before) in om
 programmed-requires : tie.Need-programmed-requires Inv-loop μ-loop
 programmed-requires c κs = search cases
 
-is-outside-requires : tie.Need-is-outside-requires Inv-loop μ-loop
-is-outside-requires c κs = search cases
+is-own-writable-requires : tie.Need-is-own-writable-requires Inv-loop μ-loop
+is-own-writable-requires c κs = search cases
 
 write-requires-2 : tie.Need-write-requires-2 Inv-loop μ-loop
 write-requires-2 c κs = search cases
@@ -104,7 +104,7 @@ wrote c =
     (λ w.
     rw (w .4 ∙ w .3 .ensures, w .5)
     (own-byte n p byte (l .fans) (l .chip) (of-no-fan p (sym (c .before .before .is-of-fan .ensures) ∙ w .0 .left))))
-    (λ w. rw (w .3, w .4) (nowhere n p byte (l .fans) (l .chip) (nothing-outside p (sym (w .1 .ensures) ∙ not-false (w .1 .result) (w .2 .left)))))
+    (λ w. rw (w .3, w .4) (nowhere n p byte (l .fans) (l .chip) (stores-nowhere p (sym (c .before .before .is-of-fan .ensures) ∙ w .0 .left) (sym (w .1 .ensures) ∙ w .2 .left))))
     u)
     v)
     (c .before .if1 .came)
@@ -144,7 +144,7 @@ in-turn-spec =
     mul-fans
     array-set-from-fans
     programmed-requires
-    is-outside-requires
+    is-own-writable-requires
     write-requires-2
     pointer-past-requires
     add-i

@@ -10,10 +10,10 @@ use Rattle.laws.specs.Buffer.{laidOver}
 use Rattle.laws.proofs.Repeat.{once-more}
 use Rattle.laws.proofs.Cases.{cases}
 use Rattle.chip.specs.State.{withPointer}
-use Rattle.chip.proofs.Maps.{of-fan, nothing-outside}
+use Rattle.chip.proofs.Maps.{of-fan, nothing-outside, clears-nowhere}
 use Rattle.emc2305.specs.Transfers.{byteRead, replyOf}
 use Rattle.emc2305.proofs.Turns.{reply-next}
-use Rattle.emc2305.proofs.Blocks.{in-fans, SameShown, ReadOne, fan-read, none-read, own-read}
+use Rattle.emc2305.proofs.Blocks.{in-fans, SameShown, ReadOne, fan-read, none-read, own-read, own-shown}
 use Rattle.emc2305.proofs.transfers.read_out.Statement.{statement}
 use Rattle.emc2305.proofs.transfers.read_out.Tie as tie
 
@@ -69,6 +69,9 @@ register-requires-2 c κs = search cases
 slice-write-reply-3 : tie.Need-slice-write-reply-3 Inv-loop μ-loop
 slice-write-reply-3 c = search cases
 
+is-cleared-requires : tie.Need-is-cleared-requires Inv-loop μ-loop
+is-cleared-requires c κs = search cases
+
 cleared-requires : tie.Need-cleared-requires Inv-loop μ-loop
 cleared-requires c κs = search cases
 
@@ -105,11 +108,20 @@ read c =
       w .4,
       none-read (a .n) (l .pointer) 0 (l .chip) next (a .chip .fans) (l .inv .4) (nothing-outside (l .pointer) (sym (w .1 .ensures) ∙ w .2 .taken)) refl (w .3),
     ))
+    (λ u.
+    ⊎-elim
     (λ w. (
       w .3 .result,
-      w .6,
-      own-read (a .n) (l .pointer) (w .3 .result) (l .chip) next (a .chip .fans) (l .inv .4) (w .3 .ensures) (w .5 ∙ w .4 .ensures),
+      w .8,
+      own-read (a .n) (l .pointer) (w .3 .result) (l .chip) next (a .chip .fans) (l .inv .4) (w .3 .ensures) (w .7 ∙ w .6 .ensures),
     ))
+    (λ w. (
+      w .3 .result,
+      w .7,
+      own-shown (a .n) (l .pointer) (w .3 .result) (l .chip) next (a .chip .fans) (l .inv .4) (w .3 .ensures)
+          (clears-nowhere (l .pointer) (sym (w .4 .ensures) ∙ w .5 .left)) (w .6),
+    ))
+    u)
     v)
     (c .before .if1 .came)
 
@@ -155,6 +167,7 @@ read-out-spec =
     slice-write-reply-2
     register-requires-2
     slice-write-reply-3
+    is-cleared-requires
     cleared-requires
     pointer-past-requires
     add-i
