@@ -56,11 +56,15 @@ continuousEnded (Continuous count) = Off
 abbrev pub configured : Bool → Watch → Watch
 configured enabled watch = cond enabled (Continuous 0) (continuousEnded watch)
 
+-- the ticks that a watch with this count lets pass before the one that makes it fire
+abbrev pub ticksLeft : ℕ → ℕ
+ticksLeft count = 319 - count
+
 -- of the next n ticks, those before the one that makes it fire
 abbrev pub quietTicks : ℕ → Watch → ℕ
 quietTicks n Off = n
-quietTicks n (PowerUp count) = min n (319 - count)
-quietTicks n (Continuous count) = min n (319 - count)
+quietTicks n (PowerUp count) = min n (ticksLeft count)
+quietTicks n (Continuous count) = min n (ticksLeft count)
 
 -- the watch after n ticks that do not make it fire
 abbrev pub counted : ℕ → Watch → Watch

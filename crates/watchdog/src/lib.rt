@@ -1,7 +1,7 @@
 // The watchdog: which watch runs, and how many ticks it has counted (document 01, 'Tach and watchdog').
 ghost use mathlib.Core.Path.{_≡_};
-ghost use Prim.Native.Nat.{_-_, min};
-ghost use Rattle.watchdog.specs.Watch.{inPowerUp, fires, watchTicked, fed, programmed, configured, reached, quietly};
+ghost use Prim.Native.Nat.{min};
+ghost use Rattle.watchdog.specs.Watch.{inPowerUp, fires, watchTicked, fed, programmed, configured, reached, ticksLeft, quietly};
 
 // The ticks after which a watch fires.
 const LIMIT: u32 = 320;
@@ -140,7 +140,7 @@ fn reached(count: u16) -> bool
 
 // Of so many ticks, those before the 320th.
 fn before_limit(passed: u16, count: u16) -> u16
-    ensures { λ r. ⌜ r ≡ min count (319 - passed) ⌝ }
+    ensures { λ r. ⌜ r ≡ min count (ticksLeft passed) ⌝ }
 {
     if reached(passed) {
         return 0;
