@@ -1,18 +1,24 @@
 -- The status bits as a byte, bit by bit.
-use mathlib.Core.Path.{_≡_, refl, sym}
+use mathlib.Core.Path.{_≡_, refl, sym, ap}
 use mathlib.Core.Bool.{Bool, true, false, cond, _||_}
-use mathlib.Core.List.{List, [], _∷_}
+use mathlib.Core.List.{List, [], _∷_, map}
 use Prim.Native.Nat.{ℕ, zero, suc, _+_, _/_, _%_, _^_, _≤_, _<_}
 use native.Mathlib.Omega.{arith}
-use native.Mathlib.Nat.{two-pow-succ}
+use native.Mathlib.Nat.{two-pow-succ, one-le-pow}
 use native.Mathlib.Numerals.{add-one}
 use lib.Dec.{leb, eqb}
-use lib.ListN.{getD}
-use borrow.Author.Tests.{leb-true, eqb-true, eq-eqb, ne-eqb}
+use lib.ListN.{length, getD}
+use borrow.Author.Tests.{leb-true, eqb-true, eqb-false, eq-eqb, ne-eqb}
+use Rattle.laws.proofs.Lists.{map-still}
 use Rattle.laws.proofs.Tables.{entry}
+use Rattle.laws.proofs.Tests.{by-test}
 use Rattle.fan.specs.declared.Fan.{Fan}
+use Rattle.fan.specs.State.{withStalled, withFailed}
 use Rattle.chip.specs.declared.Bit.{Bit}
-use Rattle.chip.specs.Fans.{fanAt, standing, bitsOf, interrupts, interrupting}
+use Rattle.chip.specs.declared.Bit.the-variants.{Stall, Spin}
+use Rattle.chip.specs.declared.Chip.{Chip}
+use Rattle.chip.specs.State.{withFans}
+use Rattle.chip.specs.Fans.{noFan, fanAt, standing, bitCleared, bitsOf, interrupts, interrupting}
 use Rattle.chip.proofs.Ways.{flag-small}
 
 -- the weights of the bits for fans 1 to 5
@@ -36,6 +42,29 @@ bits-small which fans (suc i) =
     let k = flag-small (standing which (fanAt fans i)) (2 ^ i) _ refl in
     let e = two-pow-succ i in
     omega arith
+
+-- a byte of 0 has no bit that stands
+unflagged : (b : Bool) (n w : ℕ) → 1 ≤ w → n + cond b w 0 ≡ 0 → b ≡ false
+unflagged true n w h e = absurd (omega arith)
+unflagged false n w h e = refl
+
+none-stands : (which : Bit) (fans : List Fan) (n i : ℕ) → bitsOf which fans n ≡ 0 → i < n → standing which (fanAt fans i) ≡ false
+unfolding bitsOf
+none-stands which fans zero i e h = absurd (omega arith)
+none-stands which fans (suc n) i e h =
+    by-test (eqb i n) (λ t. rw (eqb-true i n t) (unflagged (standing which (fanAt fans n)) (bitsOf which fans n) (2 ^ n) (one-le-pow n 2 (omega arith)) e))
+    (λ t. none-stands which fans n i (omega arith) (omega (arith, eqb-false i n t)))
+
+-- so that clearing the bits changes nothing
+uncleared : (which : Bit) (f : Fan) → standing which f ≡ false → bitCleared which f ≡ f
+uncleared Stall f e = ap (λ (b : Bool). withStalled b f) (sym e)
+uncleared Spin f e = ap (λ (b : Bool). withFailed b f) (sym e)
+
+pub none-cleared : (which : Bit) (c : Chip) {k : ℕ} → k ≡ length (c .fans) → k ≡ 5 → bitsOf which (c .fans) 5 ≡ 0
+    → c ≡ withFans (map (bitCleared which) (c .fans)) c
+none-cleared which c h five e =
+    ap (λ (l : List Fan). withFans l c)
+    (sym (map-still (bitCleared which) (c .fans) noFan (λ i k. uncleared which (fanAt (c .fans) i) (none-stands which (c .fans) 5 i e (omega arith)))))
 
 -- one fan more
 module _ (which : Bit) (fans : List Fan) (i byte w : ℕ) (b : Bool) (sofar : byte ≡ bitsOf which fans i) (weighed : w ≡ cond b (2 ^ i) 0) where

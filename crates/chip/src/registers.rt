@@ -106,12 +106,16 @@ impl Chip {
         }
     }
 
-    // All bits of 25h or of 26h cleared.
+    // All bits of 25h or of 26h cleared; mostly none stands.
     fn bits_cleared(self, bit: Bit) -> Chip
         ensures { λ r. ⌜ r ≡ withFans (map (bitCleared bit) (self .fans)) self ⌝ }
     {
         let all = self.fans;
-        self.with_fans(fans::each(all, Move::Clear(bit)))
+        if fans::status_byte(all, bit) == 0 {
+            self
+        } else {
+            self.with_fans(fans::each(all, Move::Clear(bit)))
+        }
     }
 
     // Where a write can store, the lock aside.
