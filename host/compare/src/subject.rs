@@ -96,11 +96,17 @@ pub struct Proved {
 }
 
 impl Proved {
-    /// With the program where `rt check emc2305_replay` lays it, or at COBBLEHARD_PROGRAM.
-    pub fn built() -> Proved {
+    /// With the program where `rt check emc2305_replay` lays it, or at COBBLEHARD_PROGRAM; in words, where it is not there.
+    pub fn built() -> Result<Proved, String> {
         let built = || Path::new(env!("CARGO_MANIFEST_DIR")).join("../../target/bin/emc2305_replay");
-        Proved {
-            program: std::env::var_os("COBBLEHARD_PROGRAM").map_or_else(built, PathBuf::from),
+        let program = std::env::var_os("COBBLEHARD_PROGRAM").map_or_else(built, PathBuf::from);
+        if program.is_file() {
+            Ok(Proved { program })
+        } else {
+            Err(format!(
+                "{} is not there: `rt check emc2305_replay` makes it",
+                program.display()
+            ))
         }
     }
 }
@@ -146,6 +152,6 @@ fn listed_by(program: &Path, log: &[u8]) -> Vec<u8> {
     match listed() {
         Ok(output) if output.status.success() => output.stdout,
         Ok(output) => panic!("{} ended with {}", program.display(), output.status),
-        Err(error) => panic!("{}: {error} (`rt check emc2305_replay` makes it)", program.display()),
+        Err(error) => panic!("{}: {error}", program.display()),
     }
 }

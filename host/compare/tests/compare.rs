@@ -12,7 +12,8 @@ const LOGS: u64 = 20_000;
 
 #[test]
 fn twenty_thousand_logs() {
-    if let Err(failure) = sweep(&Proved::built(), 1, LOGS, |_| {}) {
+    let proved = Proved::built().expect("the program is built");
+    if let Err(failure) = sweep(&proved, 1, LOGS, |_| {}) {
         panic!("{failure}");
     }
 }

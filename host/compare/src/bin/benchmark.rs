@@ -5,17 +5,24 @@ use compare::subject::{Independent, Proved, Subject};
 use std::fs::File;
 use std::hint::black_box;
 use std::path::Path;
-use std::process::{Command, Stdio};
+use std::process::{Command, ExitCode, Stdio};
 use std::time::Instant;
 
 /// How often each thing is measured, the two models in turn; the median counts.
 const REPEATS: usize = 11;
 
-fn main() {
-    let proved = Proved::built();
+fn main() -> ExitCode {
+    let proved = match Proved::built() {
+        Ok(proved) => proved,
+        Err(missing) => {
+            eprintln!("benchmark: {missing}");
+            return ExitCode::FAILURE;
+        }
+    };
     runs(&proved);
     growth(&proved);
     listings(&proved);
+    ExitCode::SUCCESS
 }
 
 /// The median of several times, in seconds.

@@ -19,9 +19,16 @@ fn main() -> ExitCode {
             return ExitCode::FAILURE;
         }
     };
+    let proved = match Proved::built() {
+        Ok(proved) => proved,
+        Err(missing) => {
+            eprintln!("compare: {missing}");
+            return ExitCode::FAILURE;
+        }
+    };
     let (start, terminal) = (Instant::now(), stderr().is_terminal());
     let mut shown = start;
-    let swept = sweep(&Proved::built(), first, count, |done| {
+    let swept = sweep(&proved, first, count, |done| {
         if terminal && shown.elapsed() > Duration::from_millis(500) {
             shown = Instant::now();
             eprint!("\r{done} of {count} logs, {:.0} s", start.elapsed().as_secs_f64());
