@@ -4,7 +4,8 @@
     python3 tests/readme_test.py
 
 A block of `sh` is run as one script, from the root of the repository; where a block of `text` comes next, the script's
-output ends with it. The gate's own command is not run: it is what runs this test.
+output ends with it. The gate's own command is not run: it is what runs this test. The log that is shown in hex is held to
+the sample that it is said to be.
 """
 import pathlib
 import re
@@ -14,6 +15,9 @@ import sys
 ROOT = pathlib.Path(__file__).resolve().parent.parent
 GATE = "bash .ci/run"
 TIMEOUT = 1200  # seconds, after which a command counts as hanging
+SAMPLE = ROOT / "samples" / "spin-up.log"
+COMMANDS, OUTPUTS = 7, 3  # what README.md has besides the gate's command
+HEX = re.compile(r"^((?:[0-9A-F]{2} )+) ", re.MULTILINE)
 FENCED = re.compile(r"^ *```(\w*)\n(.*?)^ *```$", re.MULTILINE | re.DOTALL)
 
 
@@ -36,8 +40,11 @@ def main():
             if not result.stdout.endswith(lines):
                 sys.exit(f"readme_test: this writes something else than the README says:\n{script}{result.stdout}")
             compared += 1
-    if GATE + "\n" not in [script for _, script in fenced] or ran < 5 or compared < 2:
-        sys.exit(f"readme_test: {ran} commands found and {compared} outputs: the README has lost some")
+    if GATE + "\n" not in [script for _, script in fenced] or (ran, compared) != (COMMANDS, OUTPUTS):
+        sys.exit(f"readme_test: {ran} commands found and {compared} outputs, not {COMMANDS} and {OUTPUTS}")
+    shown = [bytes.fromhex("".join(HEX.findall(body))) for language, body in fenced if language == ""]
+    if shown != [SAMPLE.read_bytes()]:
+        sys.exit(f"readme_test: the log in hex is not {SAMPLE.name}")
     print(f"readme_test: {ran} commands, {compared} outputs")
 
 

@@ -1,4 +1,5 @@
 pub mod Maps
+pub mod Ranges
 pub mod Others
 pub mod Ways
 pub mod Bits

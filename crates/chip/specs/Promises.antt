@@ -3,7 +3,7 @@ use mathlib.Core.Path.{_≡_}
 use mathlib.Core.Logic.{_↔_}
 use mathlib.Core.Bool.{true, false, cond, not, _||_}
 use mathlib.Core.List.{List, [], _∷_, _++_}
-use Prim.Native.Nat.{ℕ, zero, suc, _+_, _*_, _<_}
+use Prim.Native.Nat.{ℕ, zero, suc, _+_, _-_, _*_, _/_, _%_, _<_}
 use lib.Dec.{eqb}
 use lib.ListN.{length}
 use Rattle.laws.specs.Repeat.{repeated}
@@ -14,8 +14,8 @@ use Rattle.fan.specs.Tach.{fired}
 use Rattle.watchdog.specs.declared.Watch.the-variants.{Off}
 use Rattle.watchdog.specs.Watch.{fires, watchTicked, programmed, configured}
 use Rattle.chip.specs.declared.Chip.{Chip}
-use Rattle.chip.specs.declared.Register.the-variants.{OfFan}
-use Rattle.chip.specs.Map.{registerOf, isOfFan}
+use Rattle.chip.specs.declared.Register.the-variants.{OfFan, Undefined}
+use Rattle.chip.specs.Map.{within, ownWritable, outside, registerOf, isOfFan}
 use Rattle.chip.specs.Fans.{fanAt}
 use Rattle.chip.specs.Registers.{atDefaults, onFan, stallByte, spinByte, statusByte, alertLine, shownAt, clearedAt, storesAt, writtenAt}
 use Rattle.chip.specs.Ticks.{chipTicked}
@@ -92,6 +92,15 @@ Defaults = (address : ℕ) → shownBelow 256 (atDefaults true address) ≡ allD
 -- fan i + 1 has the registers from 30h + 10h x i on
 abbrev pub FanMap : Type 0
 FanMap = (i offset : ℕ) → i < 5 → offset < 16 → registerOf (0x30 + (0x10 * i + offset)) ≡ OfFan i offset
+
+-- what the four tests of an address say: of a fan's; outside, where nothing stands; that a read clears nothing; that a write stores nothing
+abbrev pub Ranges : Type 0
+Ranges =
+    (a : ℕ)
+    → (within 0x30 0x7F a ≡ true → registerOf a ≡ OfFan ((a - 0x30) / 0x10) (a % 0x10))
+    × (outside a ≡ true → registerOf a ≡ Undefined)
+    × ((c : Chip) → within 0x24 0x26 a ≡ false → clearedAt a c ≡ c)
+    × ((c : Chip) (byte : ℕ) → within 0x30 0x7F a ≡ false → ownWritable a ≡ false → writtenAt a byte c ≡ c)
 
 -- 25h and 26h: bit i for fan i + 1, and no other bit; 24h: bit 7 WATCH, bit 1 any of 26h, bit 0 any of 25h
 abbrev pub StatusBits : Type 0

@@ -17,10 +17,11 @@ use Rattle.chip.specs.declared.Chip.{Chip}
 use Rattle.chip.specs.declared.Register.{Register}
 use Rattle.chip.specs.declared.Register.the-variants.{Configuration, Status, StallStatus, SpinStatus, DriveFailStatus, Enable, Output, OfFan, Lock, Identity, Undefined}
 use Rattle.chip.specs.State.{withFans, withPointer}
-use Rattle.chip.specs.Map.{within, registerOf}
+use Rattle.chip.specs.Map.{within, ownWritable, registerOf}
 use Rattle.chip.specs.Fans.{noFan, fanAt, bitCleared}
 use Rattle.chip.specs.Registers.{fanStores, programmedBy, fanStored, shownOf, clearedOf, storesIn, storedOf, shownAt, clearedAt, storesAt, writtenAt}
-use Rattle.chip.proofs.Maps.{ofSomeFan, canStore, canClear}
+use Rattle.chip.proofs.Maps.{ofSomeFan}
+use Rattle.chip.proofs.Ranges.{ranges}
 use Rattle.emc2305.specs.Transfers.{pointerPast, byteWritten, byteRead}
 
 -- an address of a fan's
@@ -51,22 +52,9 @@ module _ (n p byte : ℕ) (fans : List Fan) (c : Chip) where
     fan-refused t = rw (at, t)
 
   -- a byte for no register that can be written
-  unwritten : (r : Register) → canStore r ≡ false → writtenOf r byte (held p fans c) ≡ held p fans c
-  unwritten Configuration e = absurd (true≢false e)
-  unwritten Status e = refl
-  unwritten StallStatus e = refl
-  unwritten SpinStatus e = refl
-  unwritten DriveFailStatus e = refl
-  unwritten Enable e = absurd (true≢false e)
-  unwritten (Output i) e = absurd (true≢false e)
-  unwritten (OfFan i offset) e = absurd (true≢false e)
-  unwritten Lock e = absurd (true≢false e)
-  unwritten (Identity i) e = refl
-  unwritten Undefined e = refl
-
-  pub nowhere : canStore (registerOf p) ≡ false → held (pointerPast n p) fans c ≡ byteWritten n byte (held p fans c)
-  unfolding byteWritten writtenAt storesAt
-  nowhere e = rw (unwritten (registerOf p) e)
+  pub nowhere : within 0x30 0x7F p ≡ false → ownWritable p ≡ false → held (pointerPast n p) fans c ≡ byteWritten n byte (held p fans c)
+  unfolding byteWritten
+  nowhere f g = rw (ranges p .3 (held p fans c) byte f g)
 
   -- a byte for a register of the chip's own: it looks at no fan and not at the pointer
   own-written : (r : Register) → ofSomeFan r ≡ false → held p fans (writtenOf r byte c) ≡ writtenOf r byte (held p fans c)
@@ -112,20 +100,6 @@ cleared-apart p c (OfFan i offset) = refl
 cleared-apart p c Lock = refl
 cleared-apart p c (Identity i) = refl
 cleared-apart p c Undefined = refl
-
--- where a read clears nothing
-uncleared : (c : Chip) (r : Register) → canClear r ≡ false → clearedOf r c ≡ c
-uncleared c Configuration e = refl
-uncleared c Status e = absurd (true≢false e)
-uncleared c StallStatus e = absurd (true≢false e)
-uncleared c SpinStatus e = absurd (true≢false e)
-uncleared c DriveFailStatus e = refl
-uncleared c Enable e = refl
-uncleared c (Output i) e = refl
-uncleared c (OfFan i offset) e = refl
-uncleared c Lock e = refl
-uncleared c (Identity i) e = refl
-uncleared c Undefined e = refl
 
 -- every fan shows in one list what it shows in the other
 abbrev pub SameShown : List Fan → List Fan → Type 0
@@ -174,6 +148,5 @@ module _ (n p byte : ℕ) (c next : Chip) where
         rw (m, cleared-apart p c (registerOf p))
         (e ∙ sym (shown-apart p c (registerOf p)), refl, λ k o. cleared-shown c (registerOf p) k o ∙ same k o)
 
-    pub own-shown : byte ≡ shownAt c p → canClear (registerOf p) ≡ false → next ≡ c → ReadOne fans
-    unfolding clearedAt
-    own-shown e f m = own-read e (m ∙ sym (uncleared c (registerOf p) f))
+    pub own-shown : byte ≡ shownAt c p → within 0x24 0x26 p ≡ false → next ≡ c → ReadOne fans
+    own-shown e f m = own-read e (m ∙ sym (ranges p .2 c f))

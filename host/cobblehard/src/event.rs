@@ -1,6 +1,7 @@
 //! Events, and the records that they have in a log.
 use crate::c;
 use crate::refusal::Refusal;
+use std::iter::FusedIterator;
 
 /// The most bytes that a record has.
 pub const LONGEST_RECORD: usize = 37;
@@ -32,7 +33,7 @@ const READS: u16 = 1;
 
 impl Event<'_> {
     /// Lays the event's record at the front of `out` and gives its length. A refusal (5, then 8) leaves `out` as it was.
-    pub fn write(&self, out: &mut [u8]) -> Result<usize, Refusal> {
+    pub fn write_to(&self, out: &mut [u8]) -> Result<usize, Refusal> {
         match *self {
             Event::PowerOn { address } => write(POWER_ON, address, 0, &[], out),
             Event::Ticks { count } => write(TICKS, 0, count, &[], out),
@@ -46,7 +47,7 @@ impl Event<'_> {
     /// Appends the event's record to a log; a refusal leaves the log as it was.
     pub fn append_to(&self, log: &mut Vec<u8>) -> Result<(), Refusal> {
         let mut record = [0; LONGEST_RECORD];
-        let length = self.write(&mut record)?;
+        let length = self.write_to(&mut record)?;
         log.extend_from_slice(&record[..length]);
         Ok(())
     }
@@ -99,14 +100,15 @@ pub fn read(log: &[u8], place: usize) -> Result<Option<(Event<'_>, usize)>, Refu
         },
         WISH => Event::Wish {
             fan: unit,
-            drive: value as u8,
+            drive: u8::try_from(value).expect("a wish of the library is a byte"),
         },
         TRANSFER if value == READS => Event::Read {
             address: unit,
             count: bytes[0],
         },
         TRANSFER => Event::Write { address: unit, bytes },
-        _ => return Ok(None),
+        0 => return Ok(None),
+        _ => panic!("libcobblehard gave the kind {kind}"),
     };
     Ok(Some((event, next as usize)))
 }
@@ -123,6 +125,8 @@ pub struct Records<'a> {
     /// Of the next record; none after a refusal.
     place: Option<usize>,
 }
+
+impl FusedIterator for Records<'_> {}
 
 impl<'a> Iterator for Records<'a> {
     type Item = (usize, Result<Event<'a>, Refusal>);

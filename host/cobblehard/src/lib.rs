@@ -19,8 +19,8 @@
 //!
 //! It needs libcobblehard.a, which `rt staticlib cobblehard` makes; see build.rs.
 
-#[cfg(not(target_arch = "x86_64"))]
-compile_error!("libcobblehard.a is for x86-64");
+#[cfg(not(all(target_arch = "x86_64", target_os = "linux", target_pointer_width = "64")))]
+compile_error!("libcobblehard.a is for Linux on x86-64");
 
 mod c;
 mod event;

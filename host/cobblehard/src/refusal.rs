@@ -33,9 +33,13 @@ impl Refusal {
         Refusal::ALL.get(usize::from(number).checked_sub(1)?).copied()
     }
 
-    /// What a number that the library gave says.
+    /// What a number that the library gave says. It gives none past 8: that is proved of it.
     pub(crate) fn check(number: u8) -> Result<(), Refusal> {
-        Refusal::of_number(number).map_or(Ok(()), Err)
+        match (number, Refusal::of_number(number)) {
+            (0, _) => Ok(()),
+            (_, Some(refusal)) => Err(refusal),
+            (_, None) => panic!("libcobblehard gave the number {number}"),
+        }
     }
 }
 

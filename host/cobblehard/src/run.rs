@@ -27,7 +27,9 @@ pub fn replies_room(log_length: usize) -> usize {
     (log_length / 6).saturating_mul(32)
 }
 
-/// Runs an unpowered chip over a log, and gives the replies of its read transfers, one after the other.
+/// Runs an unpowered chip over a log, and gives the replies of its read transfers, one after the other. It sets aside
+/// [`replies_room`] bytes meanwhile; [`run_into`] takes a buffer of yours. Which records were refused with 6 or 7, and where
+/// one reply ends and the next begins, [`records`](crate::records) tells: each taken read has as many bytes as it counts.
 pub fn run(log: &[u8]) -> (Run, Vec<u8>) {
     let mut replies = vec![0; replies_room(log.len())];
     let run = run_into(log, &mut replies);
@@ -52,7 +54,7 @@ pub fn run_into(log: &[u8], replies: &mut [u8]) -> Run {
         )
     };
     Run {
-        stop: Refusal::of_number(number),
+        stop: Refusal::check(number).err(),
         place: place as usize,
         records: records as usize,
         reply_bytes: reply_bytes as usize,

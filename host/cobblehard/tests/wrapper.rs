@@ -179,7 +179,7 @@ fn the_end_and_past_it() {
 fn events_written_and_read() {
     for (event, record) in each_kind() {
         let mut out = [0xAA; LONGEST_RECORD + 1];
-        assert_eq!(event.write(&mut out), Ok(record.len()), "{event:?}");
+        assert_eq!(event.write_to(&mut out), Ok(record.len()), "{event:?}");
         assert_eq!(out[..record.len()], record, "{event:?}");
         assert!(out[record.len()..].iter().all(|&byte| byte == 0xAA), "{event:?}");
         assert_eq!(read(&record, 0), Ok(Some((event, record.len()))), "{event:?}");
@@ -217,7 +217,7 @@ fn out_of_range_is_refused_before_the_room() {
     ] {
         for room in [0, 64] {
             let mut out = vec![0xAA; room];
-            assert_eq!(event.write(&mut out), Err(Refusal::OutOfRange), "{event:?}");
+            assert_eq!(event.write_to(&mut out), Err(Refusal::OutOfRange), "{event:?}");
             assert_eq!(out, vec![0xAA; room], "{event:?}");
         }
         let mut log = LOG.to_vec();
@@ -230,7 +230,7 @@ fn out_of_range_is_refused_before_the_room() {
 fn a_record_without_room() {
     for (event, record) in each_kind() {
         let mut out = vec![0xAA; record.len() - 1];
-        assert_eq!(event.write(&mut out), Err(Refusal::NoRoom), "{event:?}");
+        assert_eq!(event.write_to(&mut out), Err(Refusal::NoRoom), "{event:?}");
         assert_eq!(out, vec![0xAA; record.len() - 1], "{event:?}");
     }
 }

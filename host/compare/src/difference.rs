@@ -143,10 +143,12 @@ fn any_event<'a>(chance: &mut Chance, bytes: &'a [u8]) -> Event<'a> {
 }
 
 fn lists(subject: &dyn Subject, log: &[u8]) -> Option<String> {
-    let (expected, got) = (Independent.list(log), subject.list(log));
-    if expected == got {
-        return None;
-    }
+    let expected = Independent.list(log).expect("the model lists every log");
+    let got = match subject.list(log) {
+        Ok(got) if got == expected => return None,
+        Ok(got) => got,
+        Err(error) => return Some(format!("no listing: {error}")),
+    };
     let (expected, got) = (String::from_utf8_lossy(&expected), String::from_utf8_lossy(&got));
     let line = expected.lines().zip(got.lines()).take_while(|(a, b)| a == b).count();
     let [expected, got] = [expected, got].map(|lines| lines.lines().nth(line).unwrap_or("(no line)").to_owned());

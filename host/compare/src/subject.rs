@@ -1,10 +1,15 @@
 //! What is compared with the independent model: anything that runs, reads, writes and lists.
 use cobblehard::Event;
 use model::replay::Run;
-use std::io::{self, Write};
+use std::io::{self, Read, Write};
 use std::path::{Path, PathBuf};
-use std::process::{Command, Output, Stdio};
+use std::process::{Command, Stdio};
+use std::sync::mpsc;
 use std::thread;
+use std::time::Duration;
+
+/// After this a program counts as hanging.
+const LONGEST_LISTING: Duration = Duration::from_secs(60);
 
 /// A reading: the event and the place after it, the end, or a number.
 pub type Reading<'a> = Result<Option<(Event<'a>, usize)>, u8>;
@@ -13,7 +18,8 @@ pub trait Subject {
     fn run(&self, log: &[u8], replies: &mut [u8]) -> Run;
     fn read<'a>(&self, log: &'a [u8], place: usize) -> Reading<'a>;
     fn write(&self, event: &Event, out: &mut [u8]) -> Result<usize, u8>;
-    fn list(&self, log: &[u8]) -> Vec<u8>;
+    /// The lines, or in words what kept them from being listed.
+    fn list(&self, log: &[u8]) -> Result<Vec<u8>, String>;
 }
 
 /// The independent model.
@@ -34,10 +40,10 @@ impl Subject for Independent {
         model::log::write(&event, &log, out)
     }
 
-    fn list(&self, log: &[u8]) -> Vec<u8> {
+    fn list(&self, log: &[u8]) -> Result<Vec<u8>, String> {
         let mut lines = Vec::new();
         model::listing::list(log, &mut lines);
-        lines
+        Ok(lines)
     }
 }
 
@@ -127,31 +133,39 @@ impl Subject for Proved {
     }
 
     fn write(&self, event: &Event, out: &mut [u8]) -> Result<usize, u8> {
-        event.write(out).map_err(|refusal| refusal as u8)
+        event.write_to(out).map_err(|refusal| refusal as u8)
     }
 
-    fn list(&self, log: &[u8]) -> Vec<u8> {
-        listed_by(&self.program, log)
+    fn list(&self, log: &[u8]) -> Result<Vec<u8>, String> {
+        listed_by(&self.program, log).map_err(|error| format!("{}: {error}", self.program.display()))
     }
 }
 
-/// What a program writes with a log on its standard input.
-fn listed_by(program: &Path, log: &[u8]) -> Vec<u8> {
-    let listed = || -> io::Result<Output> {
-        let mut child = Command::new(program)
-            .stdin(Stdio::piped())
-            .stdout(Stdio::piped())
-            .spawn()?;
-        let mut stdin = child.stdin.take().expect("piped");
-        thread::scope(|scope| {
-            // A program that stops at a refusal may leave the rest of its input unread, which is no failure.
-            scope.spawn(move || stdin.write_all(log));
-            child.wait_with_output()
-        })
-    };
-    match listed() {
-        Ok(output) if output.status.success() => output.stdout,
-        Ok(output) => panic!("{} ended with {}", program.display(), output.status),
-        Err(error) => panic!("{}: {error}", program.display()),
-    }
+/// What a program writes with a log on its standard input. It fails where it ends otherwise than well, or not at all.
+fn listed_by(program: &Path, log: &[u8]) -> io::Result<Vec<u8>> {
+    let mut child = Command::new(program)
+        .stdin(Stdio::piped())
+        .stdout(Stdio::piped())
+        .spawn()?;
+    let (mut stdin, mut stdout) = (child.stdin.take().expect("piped"), child.stdout.take().expect("piped"));
+    let (sender, receiver) = mpsc::channel();
+    thread::scope(|scope| {
+        // A program that stops at a refusal may leave the rest of its input unread, which is no failure.
+        scope.spawn(move || stdin.write_all(log));
+        scope.spawn(move || {
+            let mut lines = Vec::new();
+            let read = stdout.read_to_end(&mut lines).map(|_| lines);
+            let _ = sender.send(read);
+        });
+        let read = receiver.recv_timeout(LONGEST_LISTING);
+        if read.is_err() {
+            child.kill()?;
+        }
+        let status = child.wait()?;
+        match read {
+            Ok(lines) if status.success() => lines,
+            Ok(_) => Err(io::Error::other(format!("it ended with {status}"))),
+            Err(_) => Err(io::Error::other(format!("it did not end within {LONGEST_LISTING:?}"))),
+        }
+    })
 }

@@ -34,7 +34,9 @@ impl fmt::Display for Failure {
         writeln!(f, "its log made small, {} bytes, a record a line:", self.log.len())?;
         f.write_str(&by_record(&self.log))?;
         writeln!(f, "the independent model lists it so:")?;
-        f.write_str(&String::from_utf8_lossy(&Independent.list(&self.log)))
+        f.write_str(&String::from_utf8_lossy(
+            &Independent.list(&self.log).unwrap_or_default(),
+        ))
     }
 }
 

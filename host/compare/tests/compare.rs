@@ -88,6 +88,8 @@ enum Lie {
     RecordByte,
     /// A field out of range is refused for the room where that is short too.
     RefusalOrder,
+    /// A program ends badly where a log stops.
+    Ends,
     /// A listing lacks its last line end.
     LastLineEnd,
     /// A listing has small hex digits.
@@ -158,11 +160,12 @@ impl Subject for Wrong {
         written
     }
 
-    fn list(&self, log: &[u8]) -> Vec<u8> {
-        let lines = String::from_utf8(Independent.list(log)).expect("lines are plain text");
+    fn list(&self, log: &[u8]) -> Result<Vec<u8>, String> {
+        let lines = String::from_utf8(Independent.list(log)?).expect("lines are plain text");
         let kept: Vec<&str> = lines.lines().collect();
         let stopped = kept.last().is_some_and(|line| line.starts_with("stop"));
         let lied = match self.0 {
+            Lie::Ends if stopped => return Err("it ended early".into()),
             Lie::LastLineEnd => lines.trim_end().to_owned(),
             Lie::SmallDigits => lines.to_lowercase(),
             Lie::StopLine if stopped => kept[..kept.len() - 1].join("\n") + "\n",
@@ -171,7 +174,7 @@ impl Subject for Wrong {
             }
             _ => lines,
         };
-        lied.into_bytes()
+        Ok(lied.into_bytes())
     }
 }
 
@@ -203,7 +206,7 @@ fn found(lie: Lie) -> Failure {
 }
 
 /// Each lie, and what is said to differ.
-const LIES: [(Lie, &str); 18] = [
+const LIES: [(Lie, &str); 19] = [
     (Lie::Number, "a run"),
     (Lie::Place, "a run"),
     (Lie::Records, "a run"),
@@ -218,6 +221,7 @@ const LIES: [(Lie, &str); 18] = [
     (Lie::RefusedRecord, "writing"),
     (Lie::RecordByte, "writing"),
     (Lie::RefusalOrder, "writing"),
+    (Lie::Ends, "no listing"),
     (Lie::LastLineEnd, "the listing's last line end"),
     (Lie::SmallDigits, "line"),
     (Lie::StopLine, "line"),

@@ -124,6 +124,7 @@ fn listings(proved: &Proved) {
         std::fs::write(&file, &log).expect("the temporary folder takes a file");
         let lines = Independent.list(&log);
         assert!(proved.list(&log) == lines, "the programs list otherwise");
+        let lines = lines.expect("the model lists every log");
         let (ours, theirs) = both(|| list(&proved.program, &file), || list(&other, &file));
         std::fs::remove_file(&file).expect("the file is there");
         for (what, bytes) in [("MB of log", log.len()), ("MB of lines", lines.len())] {

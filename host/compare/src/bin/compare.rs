@@ -47,7 +47,10 @@ fn main() -> ExitCode {
         }
         Err(failure) => {
             println!("{failure}");
-            println!("to see it again: compare 1 {}", failure.seed);
+            println!(
+                "to see it again: cargo run --release --manifest-path host/Cargo.toml --bin compare -- 1 {}",
+                failure.seed
+            );
             ExitCode::FAILURE
         }
     }

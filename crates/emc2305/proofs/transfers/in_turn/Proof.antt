@@ -6,7 +6,7 @@ use native.Mathlib.Omega.{arith}
 use lib.ListN.{length, getD, drop}
 use borrow.Author.Needs.{needs}
 use Rattle.laws.proofs.Cases.{cases}
-use Rattle.chip.proofs.Maps.{of-fan, of-no-fan, stores-nowhere}
+use Rattle.chip.proofs.Maps.{of-fan, of-no-fan}
 use Rattle.emc2305.specs.Transfers.{pointerPast, byteWritten, inTurn}
 use Rattle.emc2305.proofs.Turns.{turn-next, turn-over}
 use Rattle.emc2305.proofs.Blocks.{in-fans, held, fan-stored, fan-refused, nowhere, own-byte}
@@ -104,7 +104,7 @@ wrote c =
     (λ w.
     rw (w .4 ∙ w .3 .ensures, w .5)
     (own-byte n p byte (l .fans) (l .chip) (of-no-fan p (sym (c .before .before .is-of-fan .ensures) ∙ w .0 .left))))
-    (λ w. rw (w .3, w .4) (nowhere n p byte (l .fans) (l .chip) (stores-nowhere p (sym (c .before .before .is-of-fan .ensures) ∙ w .0 .left) (sym (w .1 .ensures) ∙ w .2 .left))))
+    (λ w. rw (w .3, w .4) (nowhere n p byte (l .fans) (l .chip) (sym (c .before .before .is-of-fan .ensures) ∙ w .0 .left) (sym (w .1 .ensures) ∙ w .2 .left)))
     u)
     v)
     (c .before .if1 .came)

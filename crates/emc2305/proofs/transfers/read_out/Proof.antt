@@ -10,7 +10,7 @@ use Rattle.laws.specs.Buffer.{laidOver}
 use Rattle.laws.proofs.Repeat.{once-more}
 use Rattle.laws.proofs.Cases.{cases}
 use Rattle.chip.specs.State.{withPointer}
-use Rattle.chip.proofs.Maps.{of-fan, nothing-outside, clears-nowhere}
+use Rattle.chip.proofs.Maps.{of-fan, nothing-outside}
 use Rattle.emc2305.specs.Transfers.{byteRead, replyOf}
 use Rattle.emc2305.proofs.Turns.{reply-next}
 use Rattle.emc2305.proofs.Blocks.{in-fans, SameShown, ReadOne, fan-read, none-read, own-read, own-shown}
@@ -119,7 +119,7 @@ read c =
       w .3 .result,
       w .7,
       own-shown (a .n) (l .pointer) (w .3 .result) (l .chip) next (a .chip .fans) (l .inv .4) (w .3 .ensures)
-          (clears-nowhere (l .pointer) (sym (w .4 .ensures) ∙ w .5 .left)) (w .6),
+          (sym (w .4 .ensures) ∙ w .5 .left) (w .6),
     ))
     u)
     v)
