@@ -1,5 +1,5 @@
 -- What the tests of an address say of reads and writes.
-use mathlib.Core.Path.{_≡_, refl}
+use mathlib.Core.Path.{_≡_, refl, sym, ap, _∙_}
 use mathlib.Core.Bool.{false, cond, true≢false}
 use Prim.Native.Nat.{ℕ}
 use Rattle.chip.specs.declared.Chip.{Chip}
@@ -8,7 +8,7 @@ use Rattle.chip.specs.declared.Register.the-variants.{Configuration, Sta
 use Rattle.chip.specs.Map.{registerOf}
 use Rattle.chip.specs.Registers.{clearedOf, storesIn, storedOf, clearedAt, storesAt, writtenAt}
 use Rattle.chip.specs.Promises.{Ranges}
-use Rattle.chip.proofs.Maps.{canStore, canClear, of-fan, stores-nowhere, clears-nowhere, nothing-outside}
+use Rattle.chip.proofs.Maps.{ofSomeFan, canStore, canClear, of-fan, of-no-fan, stores-nowhere, clears-nowhere, nothing-outside}
 
 -- where a read clears nothing
 uncleared : (c : Chip) (r : Register) → canClear r ≡ false → clearedOf r c ≡ c
@@ -42,6 +42,7 @@ pub ranges : Ranges
 unfolding clearedAt writtenAt storesAt
 ranges a = (
   of-fan a,
+  λ f i offset e. true≢false (sym (ap ofSomeFan e) ∙ of-no-fan a f),
   nothing-outside a,
   λ c f. uncleared c (registerOf a) (clears-nowhere a f),
   λ c byte f g. unwritten byte c (registerOf a) (stores-nowhere a f g),

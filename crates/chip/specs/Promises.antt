@@ -93,11 +93,12 @@ Defaults = (address : ℕ) → shownBelow 256 (atDefaults true address) ≡ allD
 abbrev pub FanMap : Type 0
 FanMap = (i offset : ℕ) → i < 5 → offset < 16 → registerOf (0x30 + (0x10 * i + offset)) ≡ OfFan i offset
 
--- what the four tests of an address say: of a fan's; outside, where nothing stands; that a read clears nothing; that a write stores nothing
+-- what the four tests of an address say: whether it is a fan's; outside, where nothing stands; that a read clears nothing; that a write stores nothing
 abbrev pub Ranges : Type 0
 Ranges =
     (a : ℕ)
     → (within 0x30 0x7F a ≡ true → registerOf a ≡ OfFan ((a - 0x30) / 0x10) (a % 0x10))
+    × (within 0x30 0x7F a ≡ false → (i offset : ℕ) → registerOf a ≡ OfFan i offset → ⊥)
     × (outside a ≡ true → registerOf a ≡ Undefined)
     × ((c : Chip) → within 0x24 0x26 a ≡ false → clearedAt a c ≡ c)
     × ((c : Chip) (byte : ℕ) → within 0x30 0x7F a ≡ false → ownWritable a ≡ false → writtenAt a byte c ≡ c)

@@ -23,7 +23,7 @@ pub fn register_of(address: u8) -> Register
     }
 }
 
-// Whether a fan's register stands at the address.
+// Whether the address is a fan's.
 pub fn is_of_fan(address: u8) -> bool
     ensures { λ r. ⌜ r ≡ within 0x30 0x7F address ⌝ }
 {
@@ -33,7 +33,7 @@ pub fn is_of_fan(address: u8) -> bool
     }
 }
 
-// Whether a register that can be written, and is no fan's, stands at the address.
+// Whether a register that can be written, and is no fan's, stands at the address; the lock aside.
 pub fn is_own_writable(address: u8) -> bool
     ensures { λ r. ⌜ r ≡ ownWritable address ⌝ }
 {
@@ -45,7 +45,7 @@ pub fn is_own_writable(address: u8) -> bool
     }
 }
 
-// Whether a read of the address clears something.
+// Whether a read of the address can clear something: 24h to 26h.
 pub fn is_cleared(address: u8) -> bool
     ensures { λ r. ⌜ r ≡ within 0x24 0x26 address ⌝ }
 {

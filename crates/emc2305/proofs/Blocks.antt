@@ -54,7 +54,7 @@ module _ (n p byte : ℕ) (fans : List Fan) (c : Chip) where
   -- a byte for no register that can be written
   pub nowhere : within 0x30 0x7F p ≡ false → ownWritable p ≡ false → held (pointerPast n p) fans c ≡ byteWritten n byte (held p fans c)
   unfolding byteWritten
-  nowhere f g = rw (ranges p .3 (held p fans c) byte f g)
+  nowhere f g = rw (ranges p .4 (held p fans c) byte f g)
 
   -- a byte for a register of the chip's own: it looks at no fan and not at the pointer
   own-written : (r : Register) → ofSomeFan r ≡ false → held p fans (writtenOf r byte c) ≡ writtenOf r byte (held p fans c)
@@ -149,4 +149,4 @@ module _ (n p byte : ℕ) (c next : Chip) where
         (e ∙ sym (shown-apart p c (registerOf p)), refl, λ k o. cleared-shown c (registerOf p) k o ∙ same k o)
 
     pub own-shown : byte ≡ shownAt c p → within 0x24 0x26 p ≡ false → next ≡ c → ReadOne fans
-    own-shown e f m = own-read e (m ∙ sym (ranges p .2 c f))
+    own-shown e f m = own-read e (m ∙ sym (ranges p .3 c f))

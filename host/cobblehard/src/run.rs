@@ -28,8 +28,8 @@ pub fn replies_room(log_length: usize) -> usize {
 }
 
 /// Runs an unpowered chip over a log, and gives the replies of its read transfers, one after the other. It sets aside
-/// [`replies_room`] bytes meanwhile; [`run_into`] takes a buffer of yours. Which records were refused with 6 or 7, and where
-/// one reply ends and the next begins, [`records`](crate::records) tells: each taken read has as many bytes as it counts.
+/// [`replies_room`] bytes meanwhile; [`run_into`] takes a buffer of yours. A read that was taken has as many bytes among them
+/// as it counts; one that was refused, before any power-on or to another address, has none.
 pub fn run(log: &[u8]) -> (Run, Vec<u8>) {
     let mut replies = vec![0; replies_room(log.len())];
     let run = run_into(log, &mut replies);

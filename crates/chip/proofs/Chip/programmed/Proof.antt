@@ -1,6 +1,8 @@
 -- `chip::Chip::programmed` meets its contract.
-use mathlib.Core.Path.{sym, _∙_}
+use mathlib.Core.Path.{_≡_, sym, _∙_}
+use mathlib.Core.Bool.{true, false}
 use borrow.Author.Needs.{needs}
+use Rattle.chip.specs.Registers.{programs}
 use Rattle.chip.proofs.Chip.programmed.Statement.{statement}
 use Rattle.chip.proofs.Chip.programmed.Tie as tie
 
@@ -15,10 +17,15 @@ with-watch-requires c κs = search needs
 
 returns : tie.Need-returns
 returns c =
-    c .with-watch .ensures ∙ rw (sym (c .before .before .before .programs .ensures) ∙ c .before .before .if1 .taken, c .before .programmed .ensures)
+    let a = c .before .before .before .before .args in
+    let programming : programs (a .offset) (a .byte) ≡ true = sym (c .before .before .before .programs .ensures) ∙ c .before .before .if1 .taken in
+    c .with-watch .ensures ∙ rw (programming, c .before .programmed .ensures)
 
 returns-2 : tie.Need-returns-2
-returns-2 c = rw (sym (c .before .programs .ensures) ∙ c .if1 .left)
+returns-2 c =
+    let a = c .before .before .args in
+    let other : programs (a .offset) (a .byte) ≡ false = sym (c .before .programs .ensures) ∙ c .if1 .left in
+    rw other
 
 pub programmed-spec : {M : Type 1} → statement M
 programmed-spec =
