@@ -6,14 +6,14 @@ document 002 alone.
     python3 tests/emc2305_expected.py lines > crates/emc2305_test/stdout
 
 The chip below follows the document's words ('Registers', 'Tach and watchdog', 'Numbers given back') and shares nothing
-with the code under test. Its fans are those of fan_expected, its range test is that of eventlog_expected. A case is a
+with the code under test. Its fans are those of emc2305_fan_expected, its range test is that of eventlog_expected. A case is a
 letter that says which, a byte n, and n bytes.
 """
 import eventlog_expected as eventlog
-import fan_expected as fans
+import emc2305_fan_expected as fans
 from eventlog_expected import LARGEST, code, hexes
 from expected import Chance, write_out
-from fan_expected import (CLOSED, CONFIGURATION_1, CONFIGURATION_2, DIVIDE, GAIN, LOOP, MAX_STEP, ON, RAMPED,
+from emc2305_fan_expected import (CLOSED, CONFIGURATION_1, CONFIGURATION_2, DIVIDE, GAIN, LOOP, MAX_STEP, ON, RAMPED,
                           READING_HIGH, READING_LOW, SETTING, SPIN_UP, TARGET_HIGH, VALID_COUNT)
 
 # the chip's own registers

@@ -3,7 +3,7 @@
 
     python3 tests/samples_test.py target/bin/emc2305_replay
 
-It also holds samples/ramp.log to the log that crates/promises/specs/Busy.antt proves a ramp of.
+It also holds samples/ramp.log to the log that crates/emc2305_promises/specs/Busy.antt proves a ramp of.
 """
 import pathlib
 import re
@@ -23,7 +23,7 @@ def fail(text):
 
 def proved_trace():
     """The bytes of the definition `trace`."""
-    definition = (ROOT / "crates/promises/specs/Busy.antt").read_text(encoding="utf-8").split("\ntrace =")[1].split("\n\n")[0]
+    definition = (ROOT / "crates/emc2305_promises/specs/Busy.antt").read_text(encoding="utf-8").split("\ntrace =")[1].split("\n\n")[0]
     payloads = [(int(kind), [int(x, 0) for x in row.split(" ∷ ")[:-1]]) for kind, row in RECORD.findall(definition)]
     return b"".join(bytes([*MARK, kind, len(payload), *payload]) for kind, payload in payloads)
 

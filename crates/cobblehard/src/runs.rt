@@ -1,7 +1,7 @@
 // A run over a whole log, for a host written in C.
 ghost use mathlib.Core.Path.{_≡_};
 ghost use lib.ListN.{length};
-ghost use Rattle.replay.specs.Run.{runOf, repliesAfter};
+ghost use Rattle.emc2305_run.specs.Run.{runOf, repliesAfter};
 
 // The run, with its number as the answer and its other numbers set.
 #[no_mangle]
@@ -18,7 +18,7 @@ pub extern "C" fn emc2305_run(
     ensures { λ _. ⌜ now («reply_bytes» .exit) ≡ runOf (now (log .entry)) (length (now (replies .entry))) .laid ⌝ }
     ensures { λ _. ⌜ now (replies .exit) ≡ repliesAfter (now (log .entry)) (now (replies .entry)) ⌝ }
 {
-    let outcome = replay::run(log, replies);
+    let outcome = emc2305_run::run(log, replies);
     *place = outcome.place as u64;
     *records = outcome.records as u64;
     *reply_bytes = outcome.laid as u64;
@@ -30,26 +30,26 @@ pub extern "C" fn emc2305_run(
 pub extern "C" fn emc2305_run_number(log: &[u8], replies: &mut [u8]) -> u8
     ensures { λ r. ⌜ (r ≡ runOf (now (log .entry)) (length (now (replies .entry))) .number) × (now (replies .exit) ≡ repliesAfter (now (log .entry)) (now (replies .entry))) ⌝ }
 {
-    replay::run(log, replies).number
+    emc2305_run::run(log, replies).number
 }
 
 #[no_mangle]
 pub extern "C" fn emc2305_run_place(log: &[u8], replies: &mut [u8]) -> u64
     ensures { λ r. ⌜ (r ≡ runOf (now (log .entry)) (length (now (replies .entry))) .place) × (now (replies .exit) ≡ repliesAfter (now (log .entry)) (now (replies .entry))) ⌝ }
 {
-    replay::run(log, replies).place as u64
+    emc2305_run::run(log, replies).place as u64
 }
 
 #[no_mangle]
 pub extern "C" fn emc2305_run_records(log: &[u8], replies: &mut [u8]) -> u64
     ensures { λ r. ⌜ (r ≡ runOf (now (log .entry)) (length (now (replies .entry))) .records) × (now (replies .exit) ≡ repliesAfter (now (log .entry)) (now (replies .entry))) ⌝ }
 {
-    replay::run(log, replies).records as u64
+    emc2305_run::run(log, replies).records as u64
 }
 
 #[no_mangle]
 pub extern "C" fn emc2305_run_reply_bytes(log: &[u8], replies: &mut [u8]) -> u64
     ensures { λ r. ⌜ (r ≡ runOf (now (log .entry)) (length (now (replies .entry))) .laid) × (now (replies .exit) ≡ repliesAfter (now (log .entry)) (now (replies .entry))) ⌝ }
 {
-    replay::run(log, replies).laid as u64
+    emc2305_run::run(log, replies).laid as u64
 }

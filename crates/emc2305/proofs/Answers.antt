@@ -10,8 +10,8 @@ use Rattle.laws.specs.Buffer.{laidOver}
 use Rattle.laws.proofs.Buffer.{part-is}
 use Rattle.eventlog.specs.declared.Event.{Event}
 use Rattle.eventlog.specs.declared.Event.the-variants.{Transfer}
-use Rattle.chip.specs.declared.Chip.{Chip}
-use Rattle.chip.specs.Registers.{fedChip}
+use Rattle.emc2305_chip.specs.declared.Chip.{Chip}
+use Rattle.emc2305_chip.specs.Registers.{fedChip}
 use Rattle.emc2305.specs.Transfers.{sent, replyOf, readOut}
 use Rattle.emc2305.specs.Step.{replyLength, stepNumber, taken, replyTo, stepped, replyAfter}
 

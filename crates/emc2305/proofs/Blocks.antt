@@ -8,20 +8,20 @@ use lib.ListN.{set}
 use borrow.Author.Tests.{leb-true}
 use Rattle.laws.proofs.Lists.{map-keeps}
 use Rattle.laws.proofs.Tests.{by-test, and-left, and-right}
-use Rattle.fan.specs.declared.Fan.{Fan}
-use Rattle.fan.specs.Registers.{shown}
-use Rattle.fan.specs.Stored.{written}
-use Rattle.chip.specs.declared.Bit.{Bit}
-use Rattle.chip.specs.declared.Bit.the-variants.{Stall, Spin}
-use Rattle.chip.specs.declared.Chip.{Chip}
-use Rattle.chip.specs.declared.Register.{Register}
-use Rattle.chip.specs.declared.Register.the-variants.{Configuration, Status, StallStatus, SpinStatus, DriveFailStatus, Enable, Output, OfFan, Lock, Identity, Undefined}
-use Rattle.chip.specs.State.{withFans, withPointer}
-use Rattle.chip.specs.Map.{within, ownWritable, registerOf}
-use Rattle.chip.specs.Fans.{noFan, fanAt, bitCleared}
-use Rattle.chip.specs.Registers.{fanStores, programmedBy, fanStored, shownOf, clearedOf, storesIn, storedOf, shownAt, clearedAt, storesAt, writtenAt}
-use Rattle.chip.proofs.Maps.{ofSomeFan}
-use Rattle.chip.proofs.Ranges.{ranges}
+use Rattle.emc2305_fan.specs.declared.Fan.{Fan}
+use Rattle.emc2305_fan.specs.Registers.{shown}
+use Rattle.emc2305_fan.specs.Stored.{written}
+use Rattle.emc2305_chip.specs.declared.Bit.{Bit}
+use Rattle.emc2305_chip.specs.declared.Bit.the-variants.{Stall, Spin}
+use Rattle.emc2305_chip.specs.declared.Chip.{Chip}
+use Rattle.emc2305_chip.specs.declared.Register.{Register}
+use Rattle.emc2305_chip.specs.declared.Register.the-variants.{Configuration, Status, StallStatus, SpinStatus, DriveFailStatus, Enable, Output, OfFan, Lock, Identity, Undefined}
+use Rattle.emc2305_chip.specs.State.{withFans, withPointer}
+use Rattle.emc2305_chip.specs.Map.{within, ownWritable, registerOf}
+use Rattle.emc2305_chip.specs.Fans.{noFan, fanAt, bitCleared}
+use Rattle.emc2305_chip.specs.Registers.{fanStores, programmedBy, fanStored, shownOf, clearedOf, storesIn, storedOf, shownAt, clearedAt, storesAt, writtenAt}
+use Rattle.emc2305_chip.proofs.Maps.{ofSomeFan}
+use Rattle.emc2305_chip.proofs.Ranges.{ranges}
 use Rattle.emc2305.specs.Transfers.{pointerPast, byteWritten, byteRead}
 
 -- an address of a fan's

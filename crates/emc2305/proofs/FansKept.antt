@@ -12,16 +12,16 @@ use Rattle.laws.proofs.Lists.{map-keeps}
 use Rattle.laws.proofs.Tests.{by-test, or-left, or-right}
 use Rattle.eventlog.specs.declared.Event.{Event}
 use Rattle.eventlog.specs.declared.Event.the-variants.{PowerOn, Ticks, Sample, Wish, Transfer}
-use Rattle.fan.specs.declared.Fan.{Fan}
-use Rattle.chip.specs.declared.Bit.{Bit}
-use Rattle.chip.specs.declared.Bit.the-variants.{Stall, Spin}
-use Rattle.chip.specs.declared.Chip.{Chip}
-use Rattle.chip.specs.declared.Register.{Register}
-use Rattle.chip.specs.State.{withPointer}
-use Rattle.chip.specs.Map.{registerOf, isOfFan}
-use Rattle.chip.specs.Fans.{noFan, fanAt, bitCleared}
-use Rattle.chip.specs.Registers.{atDefaults, fanStored, writtenAt, fedChip}
-use Rattle.chip.proofs.Moves.{stored-keeps, written-keeps, ticks-count}
+use Rattle.emc2305_fan.specs.declared.Fan.{Fan}
+use Rattle.emc2305_chip.specs.declared.Bit.{Bit}
+use Rattle.emc2305_chip.specs.declared.Bit.the-variants.{Stall, Spin}
+use Rattle.emc2305_chip.specs.declared.Chip.{Chip}
+use Rattle.emc2305_chip.specs.declared.Register.{Register}
+use Rattle.emc2305_chip.specs.State.{withPointer}
+use Rattle.emc2305_chip.specs.Map.{registerOf, isOfFan}
+use Rattle.emc2305_chip.specs.Fans.{noFan, fanAt, bitCleared}
+use Rattle.emc2305_chip.specs.Registers.{atDefaults, fanStored, writtenAt, fedChip}
+use Rattle.emc2305_chip.proofs.Moves.{stored-keeps, written-keeps, ticks-count}
 use Rattle.emc2305.specs.Transfers.{byteWritten, inTurn, sent, readOut}
 use Rattle.emc2305.specs.Step.{taken}
 use Rattle.emc2305.specs.Traffic.{byteStoresTo, anyStoresTo, sentStoresTo}

@@ -13,25 +13,25 @@ use Rattle.laws.proofs.Repeat.{repeated-keeps}
 use Rattle.laws.proofs.Tests.{by-test, and-left, and-right}
 use Rattle.eventlog.specs.declared.Event.{Event}
 use Rattle.eventlog.specs.declared.Event.the-variants.{PowerOn, Ticks, Sample, Wish, Transfer}
-use Rattle.fan.specs.declared.Fan.{Fan}
-use Rattle.fan.specs.Registers.{bit, byteAt, locked, undefined, shown, stores}
-use Rattle.fan.specs.Drive.{wished}
-use Rattle.fan.specs.Stored.{written}
-use Rattle.fan.specs.Tach.{sampled}
-use Rattle.fan.proofs.Kept.{registers-after}
-use Rattle.watchdog.specs.Watch.{fires}
-use Rattle.chip.specs.declared.Bit.{Bit}
-use Rattle.chip.specs.declared.Bit.the-variants.{Stall, Spin}
-use Rattle.chip.specs.declared.Chip.{Chip}
-use Rattle.chip.specs.declared.Move.the-variants.{Clear}
-use Rattle.chip.specs.declared.Register.{Register}
-use Rattle.chip.specs.declared.Register.the-variants.{Configuration, Status, StallStatus, SpinStatus, DriveFailStatus, Enable, Output, OfFan, Lock, Identity, Undefined}
-use Rattle.chip.specs.State.{withPointer}
-use Rattle.chip.specs.Map.{registerOf}
-use Rattle.chip.specs.Fans.{noFan, fanAt, moveOf}
-use Rattle.chip.specs.Registers.{shownOf, isLocked, guarded, writableIn, fanStored, shownAt, storesAt, writtenAt, fedChip}
-use Rattle.chip.specs.Ticks.{chipTicked}
-use Rattle.chip.proofs.Moves.{stored-keeps, written-keeps, tickMove, tick-fans, tick-rest}
+use Rattle.emc2305_fan.specs.declared.Fan.{Fan}
+use Rattle.emc2305_fan.specs.Registers.{bit, byteAt, locked, undefined, shown, stores}
+use Rattle.emc2305_fan.specs.Drive.{wished}
+use Rattle.emc2305_fan.specs.Stored.{written}
+use Rattle.emc2305_fan.specs.Tach.{sampled}
+use Rattle.emc2305_fan.proofs.Kept.{registers-after}
+use Rattle.emc2305_watchdog.specs.Watch.{fires}
+use Rattle.emc2305_chip.specs.declared.Bit.{Bit}
+use Rattle.emc2305_chip.specs.declared.Bit.the-variants.{Stall, Spin}
+use Rattle.emc2305_chip.specs.declared.Chip.{Chip}
+use Rattle.emc2305_chip.specs.declared.Move.the-variants.{Clear}
+use Rattle.emc2305_chip.specs.declared.Register.{Register}
+use Rattle.emc2305_chip.specs.declared.Register.the-variants.{Configuration, Status, StallStatus, SpinStatus, DriveFailStatus, Enable, Output, OfFan, Lock, Identity, Undefined}
+use Rattle.emc2305_chip.specs.State.{withPointer}
+use Rattle.emc2305_chip.specs.Map.{registerOf}
+use Rattle.emc2305_chip.specs.Fans.{noFan, fanAt, moveOf}
+use Rattle.emc2305_chip.specs.Registers.{shownOf, isLocked, guarded, writableIn, fanStored, shownAt, storesAt, writtenAt, fedChip}
+use Rattle.emc2305_chip.specs.Ticks.{chipTicked}
+use Rattle.emc2305_chip.proofs.Moves.{stored-keeps, written-keeps, tickMove, tick-fans, tick-rest}
 use Rattle.emc2305.specs.Transfers.{byteWritten, inTurn, sent, readOut}
 use Rattle.emc2305.specs.Step.{taken}
 use Rattle.emc2305.specs.Traffic.{isPowerOn}

@@ -11,8 +11,8 @@ use Rattle.laws.proofs.Buffer.{length-laid}
 use Rattle.laws.proofs.Tests.{by-test}
 use Rattle.eventlog.specs.declared.Event.{Event}
 use Rattle.eventlog.specs.Range.{inRange, rangeNumber}
-use Rattle.chip.specs.Registers.{fedChip}
-use Rattle.chip.specs.declared.Chip.{Chip}
+use Rattle.emc2305_chip.specs.Registers.{fedChip}
+use Rattle.emc2305_chip.specs.declared.Chip.{Chip}
 use Rattle.emc2305.specs.declared.Answer.{Answer}
 use Rattle.emc2305.specs.Step.{beforePower, elsewhere, replyLength, stepNumber, taken, replyTo, stepped, replyAfter}
 use Rattle.emc2305.specs.Promises.{StepNumbers, Numbered, Refused, TakenStep, after}

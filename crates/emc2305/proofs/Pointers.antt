@@ -11,12 +11,12 @@ use lib.Seq.{getD-at}
 use borrow.Author.Tests.{eqb-true, eqb-false}
 use Rattle.laws.specs.Repeat.{repeated}
 use Rattle.laws.proofs.Tests.{by-test}
-use Rattle.chip.specs.declared.Chip.{Chip}
-use Rattle.chip.specs.declared.Register.{Register}
-use Rattle.chip.specs.State.{withPointer}
-use Rattle.chip.specs.Map.{registerOf}
-use Rattle.chip.specs.Registers.{fanStored, shownAt, clearedAt, writtenAt}
-use Rattle.chip.proofs.Moves.{cleared-keeps, stored-keeps, written-keeps}
+use Rattle.emc2305_chip.specs.declared.Chip.{Chip}
+use Rattle.emc2305_chip.specs.declared.Register.{Register}
+use Rattle.emc2305_chip.specs.State.{withPointer}
+use Rattle.emc2305_chip.specs.Map.{registerOf}
+use Rattle.emc2305_chip.specs.Registers.{fanStored, shownAt, clearedAt, writtenAt}
+use Rattle.emc2305_chip.proofs.Moves.{cleared-keeps, stored-keeps, written-keeps}
 use Rattle.emc2305.specs.Transfers.{pointerPast, passed, byteWritten, inTurn, sent, byteRead, replyOf}
 use Rattle.emc2305.specs.Promises.{Pointer, ReplyBytes, pointerAfter}
 use Rattle.emc2305.proofs.Turns.{reply-length}

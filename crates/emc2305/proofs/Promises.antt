@@ -1,10 +1,10 @@
 -- The promises of a step (specs/Promises.antt) that no other file here proves.
 use mathlib.Core.Path.{refl}
 use Rattle.laws.proofs.Repeat.{repeated-add}
-use Rattle.watchdog.specs.declared.Watch.{Watch}
-use Rattle.chip.specs.declared.Chip.{Chip}
-use Rattle.chip.specs.Registers.{atDefaults, fedChip}
-use Rattle.chip.specs.Ticks.{chipTicked}
+use Rattle.emc2305_watchdog.specs.declared.Watch.{Watch}
+use Rattle.emc2305_chip.specs.declared.Chip.{Chip}
+use Rattle.emc2305_chip.specs.Registers.{atDefaults, fedChip}
+use Rattle.emc2305_chip.specs.Ticks.{chipTicked}
 use Rattle.emc2305.specs.Step.{taken, replyTo}
 use Rattle.emc2305.specs.Promises.{TickByTick, WatchAfter, TakenTransfer}
 use Rattle.emc2305.proofs.ReadKeeps.{read-keeps}

@@ -4,14 +4,14 @@ use mathlib.Core.Bool.{false}
 use mathlib.Core.List.{map}
 use Prim.Native.Nat.{ℕ}
 use Rattle.laws.proofs.Repeat.{repeated-keeps}
-use Rattle.chip.specs.declared.Bit.{Bit}
-use Rattle.chip.specs.declared.Chip.{Chip}
-use Rattle.chip.specs.declared.Move.the-variants.{Clear}
-use Rattle.chip.specs.State.{withFans, withPointer, withExpired}
-use Rattle.chip.specs.Map.{registerOf}
-use Rattle.chip.specs.Fans.{moveOf}
-use Rattle.chip.specs.Registers.{clearedAt}
-use Rattle.chip.proofs.Moves.{cleared-keeps}
+use Rattle.emc2305_chip.specs.declared.Bit.{Bit}
+use Rattle.emc2305_chip.specs.declared.Chip.{Chip}
+use Rattle.emc2305_chip.specs.declared.Move.the-variants.{Clear}
+use Rattle.emc2305_chip.specs.State.{withFans, withPointer, withExpired}
+use Rattle.emc2305_chip.specs.Map.{registerOf}
+use Rattle.emc2305_chip.specs.Fans.{moveOf}
+use Rattle.emc2305_chip.specs.Registers.{clearedAt}
+use Rattle.emc2305_chip.proofs.Moves.{cleared-keeps}
 use Rattle.emc2305.specs.Transfers.{passed, byteRead, readOut}
 
 module _ {B : Type 0} (v : Chip → B) where

@@ -9,9 +9,9 @@ use lib.Seq.{drop-cons}
 use Rattle.laws.specs.Buffer.{laidOver}
 use Rattle.laws.specs.Repeat.{repeated}
 use Rattle.laws.proofs.Buffer.{lentFrom, lent-is, laid-one}
-use Rattle.chip.specs.declared.Chip.{Chip}
-use Rattle.chip.specs.State.{withPointer}
-use Rattle.chip.specs.Registers.{shownAt}
+use Rattle.emc2305_chip.specs.declared.Chip.{Chip}
+use Rattle.emc2305_chip.specs.State.{withPointer}
+use Rattle.emc2305_chip.specs.Registers.{shownAt}
 use Rattle.emc2305.specs.Transfers.{byteWritten, inTurn, sent, byteRead, replyOf}
 
 -- one data byte more

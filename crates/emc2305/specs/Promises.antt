@@ -11,14 +11,14 @@ use Rattle.laws.specs.Buffer.{bytesAt, laidOver}
 use Rattle.eventlog.specs.declared.Event.{Event}
 use Rattle.eventlog.specs.declared.Event.the-variants.{PowerOn, Ticks, Sample, Wish, Transfer}
 use Rattle.eventlog.specs.Range.{rangeNumber}
-use Rattle.fan.specs.declared.Fan.{Fan}
-use Rattle.fan.specs.State.{withStalled, withFailed}
-use Rattle.watchdog.specs.declared.Watch.the-variants.{PowerUp}
-use Rattle.watchdog.specs.Watch.{fed}
-use Rattle.chip.specs.declared.Chip.{Chip}
-use Rattle.chip.specs.Map.{registerOf}
-use Rattle.chip.specs.Fans.{fanAt}
-use Rattle.chip.specs.Registers.{shownAt, isLocked, guarded, fedChip}
+use Rattle.emc2305_fan.specs.declared.Fan.{Fan}
+use Rattle.emc2305_fan.specs.State.{withStalled, withFailed}
+use Rattle.emc2305_watchdog.specs.declared.Watch.the-variants.{PowerUp}
+use Rattle.emc2305_watchdog.specs.Watch.{fed}
+use Rattle.emc2305_chip.specs.declared.Chip.{Chip}
+use Rattle.emc2305_chip.specs.Map.{registerOf}
+use Rattle.emc2305_chip.specs.Fans.{fanAt}
+use Rattle.emc2305_chip.specs.Registers.{shownAt, isLocked, guarded, fedChip}
 use Rattle.emc2305.specs.Transfers.{sent, byteRead, replyOf, readOut}
 use Rattle.emc2305.specs.Step.{beforePower, elsewhere, replyLength, stepNumber, taken, replyTo, stepped, replyAfter}
 use Rattle.emc2305.specs.Traffic.{storesTo, isPowerOn}

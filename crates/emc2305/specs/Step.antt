@@ -9,12 +9,12 @@ use Rattle.laws.specs.Repeat.{repeated}
 use Rattle.eventlog.specs.declared.Event.{Event}
 use Rattle.eventlog.specs.declared.Event.the-variants.{PowerOn, Ticks, Sample, Wish, Transfer}
 use Rattle.eventlog.specs.Range.{rangeNumber}
-use Rattle.fan.specs.Drive.{wished}
-use Rattle.fan.specs.Tach.{sampled}
-use Rattle.watchdog.specs.Watch.{inPowerUp}
-use Rattle.chip.specs.declared.Chip.{Chip}
-use Rattle.chip.specs.Registers.{atDefaults, onFan, fedChip}
-use Rattle.chip.specs.Ticks.{chipTicked}
+use Rattle.emc2305_fan.specs.Drive.{wished}
+use Rattle.emc2305_fan.specs.Tach.{sampled}
+use Rattle.emc2305_watchdog.specs.Watch.{inPowerUp}
+use Rattle.emc2305_chip.specs.declared.Chip.{Chip}
+use Rattle.emc2305_chip.specs.Registers.{atDefaults, onFan, fedChip}
+use Rattle.emc2305_chip.specs.Ticks.{chipTicked}
 use Rattle.emc2305.specs.declared.Answer.{Answer}
 use Rattle.emc2305.specs.Transfers.{sent, replyOf, readOut}
 

@@ -7,10 +7,10 @@ use lib.ListN.{length}
 use Rattle.laws.specs.Buffer.{bytesAt}
 use Rattle.eventlog.specs.declared.Event.{Event}
 use Rattle.eventlog.specs.declared.Event.the-variants.{PowerOn, Ticks, Sample, Wish, Transfer}
-use Rattle.chip.specs.declared.Chip.{Chip}
-use Rattle.chip.specs.State.{withPointer}
-use Rattle.chip.specs.Map.{registerOf, isOfFan}
-use Rattle.chip.specs.Registers.{storesAt, fedChip}
+use Rattle.emc2305_chip.specs.declared.Chip.{Chip}
+use Rattle.emc2305_chip.specs.State.{withPointer}
+use Rattle.emc2305_chip.specs.Map.{registerOf, isOfFan}
+use Rattle.emc2305_chip.specs.Registers.{storesAt, fedChip}
 use Rattle.emc2305.specs.Transfers.{byteWritten}
 
 -- a data byte written at the pointer is a stored write to a register of fan i + 1

@@ -5,9 +5,9 @@ use Prim.Native.Nat.{ℕ, zero, suc, _+_, _%_}
 use lib.Dec.{leb}
 use lib.ListN.{length}
 use Rattle.laws.specs.Repeat.{repeated}
-use Rattle.chip.specs.declared.Chip.{Chip}
-use Rattle.chip.specs.State.{withPointer}
-use Rattle.chip.specs.Registers.{shownAt, clearedAt, writtenAt}
+use Rattle.emc2305_chip.specs.declared.Chip.{Chip}
+use Rattle.emc2305_chip.specs.State.{withPointer}
+use Rattle.emc2305_chip.specs.Registers.{shownAt, clearedAt, writtenAt}
 
 -- the pointer after a data byte of n: with one it stays, with two or more it goes up by one, FFh to 00h
 unfoldable pub pointerPast : ℕ → ℕ → ℕ

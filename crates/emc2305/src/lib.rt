@@ -2,7 +2,7 @@
 mod steps;
 mod transfers;
 
-use chip::Chip;
+use emc2305_chip::Chip;
 pub use steps::step;
 
 // The numbers of a step that the log does not give.

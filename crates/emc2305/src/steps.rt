@@ -3,7 +3,7 @@ use crate::Answer;
 use crate::ELSEWHERE;
 use crate::NO_POWER;
 use crate::transfers;
-use chip::Chip;
+use emc2305_chip::Chip;
 use eventlog::Event;
 use eventlog::NO_ROOM;
 use eventlog::TAKEN;

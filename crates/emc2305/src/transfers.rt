@@ -1,5 +1,5 @@
 // Transfers: the pointer, data bytes written, bytes read.
-use chip::Chip;
+use emc2305_chip::Chip;
 ghost use mathlib.Core.Path.{_≡_};
 ghost use Prim.Native.Nat.{_≤_};
 ghost use lib.ListN.{length};
@@ -30,15 +30,15 @@ fn in_turn(mut chip: Chip, bytes: &[u8]) -> Chip
     let mut i = 0;
     while i < n {
         let byte = bytes[i];
-        if chip::is_of_fan(pointer) {
+        if emc2305_chip::is_of_fan(pointer) {
             let at = (pointer as usize - FIRST_FAN) / 0x10;
             let offset = pointer as usize % 0x10;
             let fan = fans[at];
-            if chip::fan_stores(fan, chip.lock, offset) {
+            if emc2305_chip::fan_stores(fan, chip.lock, offset) {
                 fans[at] = fan.write(offset, byte);
                 chip = chip.programmed(offset, byte);
             }
-        } else if chip::is_own_writable(pointer) {
+        } else if emc2305_chip::is_own_writable(pointer) {
             chip = chip.write(pointer, byte);
         }
         pointer = pointer_past(pointer, n);
@@ -58,14 +58,14 @@ pub(crate) fn read_out(mut chip: Chip, n: usize, reply: &mut [u8]) -> Chip
     let mut pointer = chip.pointer;
     let mut i = 0;
     while i < n {
-        if chip::is_of_fan(pointer) {
+        if emc2305_chip::is_of_fan(pointer) {
             let fan = fans[(pointer as usize - FIRST_FAN) / 0x10];
             reply[i] = fan.register(pointer as usize % 0x10);
-        } else if chip::is_outside(pointer) {
+        } else if emc2305_chip::is_outside(pointer) {
             reply[i] = 0x00;
         } else {
             reply[i] = chip.register(pointer);
-            if chip::is_cleared(pointer) {
+            if emc2305_chip::is_cleared(pointer) {
                 chip = chip.cleared(pointer);
             }
         }

@@ -6,10 +6,10 @@ use Prim.Native.Nat.{ℕ, _+_, _-_, _≤_}
 use native.Mathlib.Omega.{arith}
 use lib.ListN.{length, take, drop, length-drop}
 use lib.Seq.{length-take-le}
-use Rattle.chip.specs.declared.Chip.{Chip}
-use Rattle.listing.specs.declared.Listed.{Listed}
-use Rattle.listing.specs.Window.{listed, outAfter}
-use Rattle.listing.proofs.Buffers.{kept}
+use Rattle.emc2305_chip.specs.declared.Chip.{Chip}
+use Rattle.emc2305_listing.specs.declared.Listed.{Listed}
+use Rattle.emc2305_listing.specs.Window.{listed, outAfter}
+use Rattle.emc2305_listing.proofs.Buffers.{kept}
 
 module _ (c : Chip) (first : ℕ) (window : List ℕ) (ended : Bool) (out last : List ℕ) (answer : Listed)
     (is : answer ≡ listed c first window ended (length out)) (lays : last ≡ outAfter c first window ended out) where

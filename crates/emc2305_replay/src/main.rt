@@ -1,9 +1,9 @@
 // Lists the log on standard input: a line for each record, and a last one (document 01, 'Numbers given back').
-use chip::Chip;
+use emc2305_chip::Chip;
+use emc2305_listing::Wants;
 use libc::EINTR;
 use libc::STDIN_FILENO;
 use libc::STDOUT_FILENO;
-use listing::Wants;
 ghost use Prim.Native.Nat.{_+_, _≤_};
 ghost use lib.ListN.{length};
 
@@ -35,7 +35,7 @@ fn list_all(window: &mut [u8], out: &mut [u8]) {
     while turns > 0 && hold.going {
         let from = hold.from;
         let held = hold.held;
-        let listed = listing::list(chip, place, &window[from..held], hold.ended, out);
+        let listed = emc2305_listing::list(chip, place, &window[from..held], hold.ended, out);
         chip = listed.chip;
         place = listed.place;
         let laid = listed.laid;

@@ -1,9 +1,9 @@
 // The commands: each takes the bench and its bytes, writes what it did, and hands the bench back.
 use crate::show;
 use crate::wide;
-use chip::Chip;
+use emc2305_chip::Chip;
+use emc2305_watchdog::Watch;
 use eventlog::Event;
-use watchdog::Watch;
 
 // The most room that a reply is lent, and what stands there before each step.
 const SPACE: usize = 64;

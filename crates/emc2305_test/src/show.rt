@@ -1,9 +1,9 @@
 // Text on standard output: events, the state of a chip, its registers.
-use chip::Chip;
+use emc2305_chip::Chip;
+use emc2305_fan::Fan;
+use emc2305_watchdog::Watch;
 use eventlog::Event;
-use fan::Fan;
 use libc::STDOUT_FILENO;
-use watchdog::Watch;
 
 // The sum is a remainder by this prime; each byte counts one more power of the factor.
 const PRIME: u64 = 65521;

@@ -6,7 +6,7 @@ use native.Mathlib.Omega.{arith}
 use lib.ListN.{length, getD, drop}
 use borrow.Author.Needs.{needs}
 use Rattle.laws.proofs.Cases.{cases}
-use Rattle.chip.proofs.Maps.{of-fan, of-no-fan}
+use Rattle.emc2305_chip.proofs.Maps.{of-fan, of-no-fan}
 use Rattle.emc2305.specs.Transfers.{pointerPast, byteWritten, inTurn}
 use Rattle.emc2305.proofs.Turns.{turn-next, turn-over}
 use Rattle.emc2305.proofs.Blocks.{in-fans, held, fan-stored, fan-refused, nowhere, own-byte}

@@ -9,8 +9,8 @@ use Rattle.laws.specs.Repeat.{repeated}
 use Rattle.laws.specs.Buffer.{laidOver}
 use Rattle.laws.proofs.Repeat.{once-more}
 use Rattle.laws.proofs.Cases.{cases}
-use Rattle.chip.specs.State.{withPointer}
-use Rattle.chip.proofs.Maps.{of-fan, nothing-outside}
+use Rattle.emc2305_chip.specs.State.{withPointer}
+use Rattle.emc2305_chip.proofs.Maps.{of-fan, nothing-outside}
 use Rattle.emc2305.specs.Transfers.{byteRead, replyOf}
 use Rattle.emc2305.proofs.Turns.{reply-next}
 use Rattle.emc2305.proofs.Blocks.{in-fans, SameShown, ReadOne, fan-read, none-read, own-read, own-shown}

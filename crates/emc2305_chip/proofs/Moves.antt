@@ -1,0 +1,81 @@
+-- What a read, a write and a tick keep, of any part of the chip that they are asked for.
+use mathlib.Core.Path.{_≡_, refl, ap, _∙_}
+use mathlib.Core.Bool.{Bool, true, false, cond}
+use mathlib.Core.List.{map}
+use Prim.Native.Nat.{ℕ}
+use lib.ListN.{length, set, length-map}
+use Rattle.laws.specs.Repeat.{repeated}
+use Rattle.laws.proofs.Repeat.{repeated-keeps}
+use Rattle.laws.proofs.Tests.{by-test}
+use Rattle.emc2305_fan.specs.declared.Fan.{Fan}
+use Rattle.emc2305_fan.specs.Tick.{ticked}
+use Rattle.emc2305_fan.specs.Tach.{fired}
+use Rattle.emc2305_watchdog.specs.Watch.{fires}
+use Rattle.emc2305_chip.specs.declared.Bit.{Bit}
+use Rattle.emc2305_chip.specs.declared.Bit.the-variants.{Stall, Spin}
+use Rattle.emc2305_chip.specs.declared.Chip.{Chip}
+use Rattle.emc2305_chip.specs.declared.Move.the-variants.{Clear}
+use Rattle.emc2305_chip.specs.declared.Register.{Register}
+use Rattle.emc2305_chip.specs.declared.Register.the-variants.{Configuration, Status, StallStatus, SpinStatus, DriveFailStatus, Enable, Output, OfFan, Lock, Identity, Undefined}
+use Rattle.emc2305_chip.specs.State.{withFans, withEnable, withOutputs, withLock, withExpired}
+use Rattle.emc2305_chip.specs.Map.{registerOf}
+use Rattle.emc2305_chip.specs.Fans.{moveOf}
+use Rattle.emc2305_chip.specs.Registers.{clearedOf, storesAt, storedOf, fanStored, writtenAt}
+use Rattle.emc2305_chip.specs.Ticks.{allFired, fansTicked, chipTicked}
+
+module _ {B : Type 0} (v : Chip → B) where
+  -- a read, of each register
+  pub cleared-keeps : (c : Chip) → v (withExpired false c) ≡ v c → ((which : Bit) → v (withFans (map (moveOf (Clear which)) (c .fans)) c) ≡ v c)
+      → (register : Register) → v (clearedOf register c) ≡ v c
+  cleared-keeps c e f Configuration = refl
+  cleared-keeps c e f Status = e
+  cleared-keeps c e f StallStatus = f Stall
+  cleared-keeps c e f SpinStatus = f Spin
+  cleared-keeps c e f DriveFailStatus = refl
+  cleared-keeps c e f Enable = refl
+  cleared-keeps c e f (Output i) = refl
+  cleared-keeps c e f (OfFan i offset) = refl
+  cleared-keeps c e f Lock = refl
+  cleared-keeps c e f (Identity i) = refl
+  cleared-keeps c e f Undefined = refl
+
+  -- a stored write, of each register that passes a test
+  pub stored-keeps : (passes : Register → Bool) (byte : ℕ) (c : Chip) → (passes Configuration ≡ true → v (storedOf Configuration byte c) ≡ v c)
+      → v (withEnable byte c) ≡ v c → ((i : ℕ) → v (withOutputs (set (c .outputs) i byte) c) ≡ v c)
+      → ((i offset : ℕ) → passes (OfFan i offset) ≡ true → v (fanStored i offset byte c) ≡ v c) → (passes Lock ≡ true → v (withLock byte c) ≡ v c)
+      → (register : Register) → passes register ≡ true → v (storedOf register byte c) ≡ v c
+  stored-keeps passes byte c h e o f l Configuration t = h t
+  stored-keeps passes byte c h e o f l Status t = refl
+  stored-keeps passes byte c h e o f l StallStatus t = refl
+  stored-keeps passes byte c h e o f l SpinStatus t = refl
+  stored-keeps passes byte c h e o f l DriveFailStatus t = refl
+  stored-keeps passes byte c h e o f l Enable t = e
+  stored-keeps passes byte c h e o f l (Output i) t = o i
+  stored-keeps passes byte c h e o f l (OfFan i offset) t = f i offset t
+  stored-keeps passes byte c h e o f l Lock t = l t
+  stored-keeps passes byte c h e o f l (Identity i) t = refl
+  stored-keeps passes byte c h e o f l Undefined t = refl
+
+  -- a write, where it keeps what it stores
+  pub written-keeps : (address byte : ℕ) (c : Chip) → (storesAt c address ≡ true → v (storedOf (registerOf address) byte c) ≡ v c)
+      → v (writtenAt address byte c) ≡ v c
+  unfolding writtenAt
+  written-keeps address byte c h = by-test (storesAt c address) (λ t. rw t (h t)) (λ t. rw t)
+
+-- a tick moves all fans alike
+abbrev pub tickMove : Chip → Fan → Fan
+tickMove c = cond (fires (c .watch)) fired ticked
+
+pub tick-fans : (c : Chip) → chipTicked c .fans ≡ map (tickMove c) (c .fans)
+unfolding chipTicked allFired fansTicked
+tick-fans c = by-test (fires (c .watch)) (λ t. rw t) (λ t. rw t)
+
+-- it keeps their number, and so do n ticks
+pub ticks-count : (n : ℕ) (c : Chip) → length (repeated n chipTicked c .fans) ≡ length (c .fans)
+ticks-count n c =
+    repeated-keeps (λ (d : Chip). length (d .fans)) n chipTicked c (λ d. ap length (tick-fans d) ∙ length-map (d .fans) (tickMove d))
+
+-- and 20h and EFh
+pub tick-rest : (c : Chip) → (chipTicked c .configuration ≡ c .configuration) × (chipTicked c .lock ≡ c .lock)
+unfolding chipTicked allFired fansTicked
+tick-rest c = by-test (fires (c .watch)) (λ t. (rw t, rw t)) (λ t. (rw t, rw t))

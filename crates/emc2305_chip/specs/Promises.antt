@@ -1,0 +1,132 @@
+-- What is promised of the chip's registers and ticks. docs/CLAIMS.md names the file of each proof.
+use mathlib.Core.Path.{_≡_}
+use mathlib.Core.Logic.{_↔_}
+use mathlib.Core.Bool.{true, false, cond, not, _||_}
+use mathlib.Core.List.{List, [], _∷_, _++_}
+use Prim.Native.Nat.{ℕ, zero, suc, _+_, _-_, _*_, _/_, _%_, _<_}
+use lib.Dec.{eqb}
+use lib.ListN.{length}
+use Rattle.laws.specs.Repeat.{repeated}
+use Rattle.emc2305_fan.specs.declared.Fan.{Fan}
+use Rattle.emc2305_fan.specs.Registers.{bit}
+use Rattle.emc2305_fan.specs.Tick.{ticked}
+use Rattle.emc2305_fan.specs.Tach.{fired}
+use Rattle.emc2305_watchdog.specs.declared.Watch.the-variants.{Off}
+use Rattle.emc2305_watchdog.specs.Watch.{fires, watchTicked, programmed, configured}
+use Rattle.emc2305_chip.specs.declared.Chip.{Chip}
+use Rattle.emc2305_chip.specs.declared.Register.the-variants.{OfFan, Undefined}
+use Rattle.emc2305_chip.specs.Map.{within, ownWritable, outside, registerOf, isOfFan}
+use Rattle.emc2305_chip.specs.Fans.{fanAt}
+use Rattle.emc2305_chip.specs.Registers.{atDefaults, onFan, stallByte, spinByte, statusByte, alertLine, shownAt, clearedAt, storesAt, writtenAt}
+use Rattle.emc2305_chip.specs.Ticks.{chipTicked}
+
+-- one fan changed, the others as they were
+abbrev pub OneFan : Type 0
+OneFan =
+    (c : Chip) (i : ℕ) (move : Fan → Fan)
+    → (i < length (c .fans) → fanAt (onFan i move c .fans) i ≡ move (fanAt (c .fans) i))
+    × ((k : ℕ) → (k ≡ i → ⊥) → fanAt (onFan i move c .fans) k ≡ fanAt (c .fans) k)
+
+-- no fan waits for another: with the watch off, a fan's part of n ticks of the chip is n ticks of that fan
+abbrev pub FanTicks : Type 0
+FanTicks =
+    (c : Chip) (i n : ℕ) → c .watch ≡ Off → i < length (c .fans)
+    → (fanAt (repeated n chipTicked c .fans) i ≡ repeated n ticked (fanAt (c .fans) i)) × (repeated n chipTicked c .watch ≡ Off)
+
+-- one tick of the chip: the watchdog acts first, and if it fires no fan moves in it
+abbrev pub OneTick : Type 0
+OneTick =
+    (c : Chip)
+    → (chipTicked c .watch ≡ watchTicked (c .watch))
+    × (chipTicked c .expired ≡ (fires (c .watch) || c .expired))
+    × ((i : ℕ) → i < length (c .fans)
+    → fanAt (chipTicked c .fans) i ≡ cond (fires (c .watch)) (fired (fanAt (c .fans) i)) (ticked (fanAt (c .fans) i)))
+
+-- one write to a register and the watch: Setting, and Configuration 1 with bit 7, end the power-up watch where they are stored; 20h starts or ends
+-- the continuous watch where it is stored; no other write touches it
+abbrev pub WatchWrites : Type 0
+WatchWrites =
+    (c : Chip) (byte : ℕ)
+    → ((i : ℕ) → i < 5 → storesAt c (0x30 + 0x10 * i) ≡ true → writtenAt (0x30 + 0x10 * i) byte c .watch ≡ programmed (c .watch))
+    × ((i : ℕ) → i < 5 → storesAt c (0x32 + 0x10 * i) ≡ true
+    → writtenAt (0x32 + 0x10 * i) byte c .watch ≡ cond (bit 7 byte) (programmed (c .watch)) (c .watch))
+    × (storesAt c 0x20 ≡ true → writtenAt 0x20 byte c .watch ≡ configured (bit 5 byte) (c .watch))
+    × ((i offset : ℕ) → i < 5 → offset < 16 → (offset ≡ 0x0 → ⊥) → (offset ≡ 0x2 → ⊥)
+    → writtenAt (0x30 + (0x10 * i + offset)) byte c .watch ≡ c .watch)
+    × ((address : ℕ) → isOfFan 0 (registerOf address) ≡ false → isOfFan 1 (registerOf address) ≡ false → isOfFan 2 (registerOf address) ≡ false
+    → isOfFan 3 (registerOf address) ≡ false → isOfFan 4 (registerOf address) ≡ false → (address ≡ 0x20 → ⊥)
+    → writtenAt address byte c .watch ≡ c .watch)
+
+-- a write that is not stored changes nothing; one that is stored reads back, but for Setting, which shows the drive
+abbrev pub ReadBack : Type 0
+ReadBack =
+    (c : Chip) (address byte : ℕ) → length (c .fans) ≡ 5 → length (c .outputs) ≡ 4
+    → ((i : ℕ) → i < 5 → length (fanAt (c .fans) i .registers) ≡ 16)
+    → (storesAt c address ≡ false → writtenAt address byte c ≡ c)
+    × (storesAt c address ≡ true → ((i : ℕ) → registerOf address ≡ OfFan i 0x0 → ⊥) → shownAt (writtenAt address byte c) address ≡ byte)
+
+-- a fan's registers at power-on, as document 01 lists them
+abbrev pub fanDefaults : List ℕ
+fanDefaults = 0x00 ∷ 0x01 ∷ 0x2B ∷ 0x28 ∷ 0x00 ∷ 0x2A ∷ 0x19 ∷ 0x10 ∷ 0x66 ∷ 0xF5 ∷ 0x00 ∷ 0x00 ∷ 0xF8 ∷ 0xFF ∷ 0xFF ∷ 0xF8 ∷ []
+
+-- so many bytes 00h
+abbrev pub zeros : ℕ → List ℕ
+zeros zero = []
+zeros (suc n) = 0x00 ∷ zeros n
+
+-- the defaults from 00h to FFh: 20h, the five fans, the identity bytes of Table 5.1, and 00h elsewhere
+abbrev pub allDefaults : List ℕ
+allDefaults =
+    zeros 0x20 ++ (0x40 ∷ zeros 0x0F) ++ (fanDefaults ++ (fanDefaults ++ (fanDefaults ++ (fanDefaults ++ fanDefaults))))
+    ++ (zeros 0x7C ++ (0x00 ∷ 0x34 ∷ 0x5D ∷ 0x80 ∷ []))
+
+-- the bytes that the first n addresses show
+abbrev pub shownBelow : ℕ → Chip → List ℕ
+shownBelow zero c = []
+shownBelow (suc n) c = shownBelow n c ++ (shownAt c n ∷ [])
+
+-- after power-on every address shows its default
+abbrev pub Defaults : Type 0
+Defaults = (address : ℕ) → shownBelow 256 (atDefaults true address) ≡ allDefaults
+
+-- fan i + 1 has the registers from 30h + 10h x i on
+abbrev pub FanMap : Type 0
+FanMap = (i offset : ℕ) → i < 5 → offset < 16 → registerOf (0x30 + (0x10 * i + offset)) ≡ OfFan i offset
+
+-- what the four tests of an address say: whether it is a fan's; outside, where nothing stands; that a read clears nothing; that a write stores nothing
+abbrev pub Ranges : Type 0
+Ranges =
+    (a : ℕ)
+    → (within 0x30 0x7F a ≡ true → registerOf a ≡ OfFan ((a - 0x30) / 0x10) (a % 0x10))
+    × (within 0x30 0x7F a ≡ false → (i offset : ℕ) → registerOf a ≡ OfFan i offset → ⊥)
+    × (outside a ≡ true → registerOf a ≡ Undefined)
+    × ((c : Chip) → within 0x24 0x26 a ≡ false → clearedAt a c ≡ c)
+    × ((c : Chip) (byte : ℕ) → within 0x30 0x7F a ≡ false → ownWritable a ≡ false → writtenAt a byte c ≡ c)
+
+-- 25h and 26h: bit i for fan i + 1, and no other bit; 24h: bit 7 WATCH, bit 1 any of 26h, bit 0 any of 25h
+abbrev pub StatusBits : Type 0
+StatusBits =
+    (c : Chip)
+    → (stallByte c < 32) × (spinByte c < 32)
+    × ((i : ℕ) → i < 5 → (bit i (stallByte c) ≡ fanAt (c .fans) i .stalled) × (bit i (spinByte c) ≡ fanAt (c .fans) i .failed))
+    × (bit 7 (statusByte c) ≡ c .expired)
+    × (bit 1 (statusByte c) ≡ not (eqb (spinByte c) 0))
+    × (bit 0 (statusByte c) ≡ not (eqb (stallByte c) 0))
+
+-- reading 25h or 26h clears all its bits and no other; reading 24h clears WATCH alone
+abbrev pub ReadClears : Type 0
+ReadClears =
+    (c : Chip)
+    → (stallByte (clearedAt 0x25 c) ≡ 0) × (spinByte (clearedAt 0x25 c) ≡ spinByte c) × (clearedAt 0x25 c .expired ≡ c .expired)
+    × (spinByte (clearedAt 0x26 c) ≡ 0) × (stallByte (clearedAt 0x26 c) ≡ stallByte c) × (clearedAt 0x26 c .expired ≡ c .expired)
+    × (clearedAt 0x24 c .expired ≡ false) × (stallByte (clearedAt 0x24 c) ≡ stallByte c) × (spinByte (clearedAt 0x24 c) ≡ spinByte c)
+
+-- the alert line: MASK is 0, and WATCH is set or some fan has a bit and is enabled
+abbrev pub Alert : Type 0
+Alert =
+    (c : Chip)
+    → (bit 7 (c .configuration) ≡ true → alertLine c ≡ false)
+    × (bit 7 (c .configuration) ≡ false → c .expired ≡ true → alertLine c ≡ true)
+    × (bit 7 (c .configuration) ≡ false → c .expired ≡ false
+    → (alertLine c ≡ true
+    ↔ ((i : ℕ) × (i < 5) × (bit i (c .enable) ≡ true) × (fanAt (c .fans) i .stalled || fanAt (c .fans) i .failed ≡ true))))

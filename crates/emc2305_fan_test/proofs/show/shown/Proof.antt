@@ -1,0 +1,46 @@
+-- `show::shown` is safe and ends: each turn asks one of the offsets.
+use Prim.Native.Nat.{_≤_, _-_}
+use borrow.Author.Needs.{needs}
+use Rattle.emc2305_fan_test.proofs.show.shown.Statement.{statement}
+use Rattle.emc2305_fan_test.proofs.show.shown.Tie as tie
+
+abbrev Inv-loop : tie.InvT-loop
+Inv-loop fan offset₀ offset = offset ≤ 18
+
+abbrev μ-loop : tie.MeasureT-loop
+μ-loop fan offset₀ offset = 18 - offset
+
+loop-holds : tie.Need-loop-holds Inv-loop μ-loop
+loop-holds c = search needs
+
+register-requires : tie.Need-register-requires Inv-loop μ-loop
+register-requires c κs = search needs
+
+hex-requires : tie.Need-hex-requires Inv-loop μ-loop
+hex-requires c κs = search needs
+
+add-offset : tie.Need-add-offset Inv-loop μ-loop
+add-offset c = search needs
+
+loop-less : tie.Need-loop-less Inv-loop μ-loop
+loop-less c = search needs
+
+loop-again : tie.Need-loop-again Inv-loop μ-loop
+loop-again c = search needs
+
+returns : tie.Need-returns Inv-loop μ-loop
+returns c = search needs
+
+pub shown-spec : {M : Type 1} → statement M
+shown-spec =
+    tie.close
+    (tie.spec
+    Inv-loop
+    μ-loop
+    loop-holds
+    register-requires
+    hex-requires
+    add-offset
+    loop-less
+    loop-again
+    returns)

@@ -1,0 +1,36 @@
+// Runs the commands on standard input over one fan, and writes a line for each. The files stdin and stdout hold the
+// commands and the lines, both made by tests/fan_expected.py from document 01 alone.
+mod commands;
+mod show;
+
+use emc2305_fan::Fan;
+use libc::STDIN_FILENO;
+
+fn main() {
+    let mut space = io::large_buffer();
+    let len = io::read_full(STDIN_FILENO, &mut space);
+    run(&space[..len]);
+}
+
+// A command is a byte that says which, a byte n, and n bytes. Each acts on the fan that the one before it left.
+fn run(input: &[u8]) {
+    let mut fan = Fan::reset();
+    let mut at = 0;
+    for _ in 0..input.len() {
+        if input.len() - at < 2 {
+            return;
+        }
+        let which = input[at];
+        let n = wide(input[at + 1]);
+        let from = at + 2;
+        if input.len() - from < n {
+            return;
+        }
+        fan = commands::act(fan, which, &input[from..from + n]);
+        at = from + n;
+    }
+}
+
+pub fn wide(n: u8) -> usize {
+    n as usize
+}

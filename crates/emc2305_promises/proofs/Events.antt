@@ -1,0 +1,48 @@
+-- An event is taken or leaves the chip as it was; what holds throughout a sequence; the watch off.
+use mathlib.Core.Path.{_≡_, refl, sym, _∙_}
+use mathlib.Core.Bool.{Bool, true, false, false≢true}
+use mathlib.Core.List.{List, _∷_}
+use Prim.Native.Nat.{ℕ, _+_, _-_, _≤_}
+use native.Mathlib.Omega.{arith}
+use lib.Dec.{eqb}
+use borrow.Author.Tests.{eqb-true, eqb-false, eq-eqb, ne-eqb}
+use Rattle.laws.proofs.Tests.{by-test, and-left, and-right}
+use Rattle.eventlog.specs.Range.{inRange}
+use Rattle.eventlog.proofs.Ranges.{in-range}
+use Rattle.emc2305_watchdog.specs.declared.Watch.{Watch}
+use Rattle.emc2305_watchdog.specs.declared.Watch.the-variants.{Off, PowerUp, Continuous}
+use Rattle.emc2305_watchdog.specs.Watch.{isOff}
+use Rattle.emc2305_chip.specs.declared.Chip.{Chip}
+use Rattle.emc2305.specs.Step.{stepNumber, taken, stepped}
+use Rattle.emc2305.specs.Promises.{after}
+use Rattle.emc2305.proofs.Numbers.{step-numbers}
+use Rattle.emc2305_promises.specs.Ramp.{Handed, next, isTaken, throughout}
+
+pub is-off : (w : Watch) → isOff w ≡ true → w ≡ Off
+is-off Off e = refl
+is-off (PowerUp count) e = absurd (false≢true e)
+is-off (Continuous count) e = absurd (false≢true e)
+
+-- fan number i + 1 has index i
+pub same-fan : (fan i : ℕ) → 1 ≤ fan → eqb (fan - 1) i ≡ eqb fan (i + 1)
+same-fan fan i h =
+    by-test (eqb fan (i + 1)) (λ t. eq-eqb (fan - 1) i (omega (arith, eqb-true fan (i + 1) t)) ∙ sym t)
+    (λ t. ne-eqb (fan - 1) i (λ e. eqb-false fan (i + 1) t (omega arith)) ∙ sym t)
+
+module _ (h : Handed) (c : Chip) where
+  -- an event is taken, and is in range, or it leaves the chip as it was
+  pub by-taken : {X : Type 0} → (isTaken h c ≡ true → next h c ≡ taken (h .log) (h .event) c → inRange (h .log) (h .event) ≡ true → X)
+      → (isTaken h c ≡ false → next h c ≡ c → X) → X
+  unfolding stepped
+  by-taken is isnt =
+      let n = stepNumber (c .powered) (c .address) (h .log) (h .event) (h .room) in
+      let numbers = step-numbers (c .powered) (c .address) (h .log) (h .event) (h .room) in
+      by-test (eqb n 0) (λ t. is (rw (t, isTaken)) (rw (t, next, after)) (in-range (h .log) (h .event) (numbers .4 .0 (eqb-true n 0 t) .0)))
+      (λ t. isnt (rw (t, isTaken, t)) (rw (t, next, after)))
+
+-- what holds throughout a sequence, at its first event and throughout the rest
+pub first-rest : (rule : Handed → Chip → Bool) (h : Handed) (rest : List Handed) (c : Chip) → throughout rule (h ∷ rest) c ≡ true
+    → (rule h c ≡ true) × (throughout rule rest (next h c) ≡ true)
+unfolding throughout
+first-rest rule h rest c q =
+    (and-left (rule h c) (throughout rule rest (next h c)) q, and-right (rule h c) (throughout rule rest (next h c)) q)

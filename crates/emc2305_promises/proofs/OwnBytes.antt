@@ -1,0 +1,125 @@
+-- What reaches a fan by the bytes of a transfer (specs/Alone.antt).
+use mathlib.Core.Path.{_≡_, refl, sym, ap, _∙_}
+use mathlib.Core.Bool.{Bool, true, false, cond, and-true, and-false}
+use mathlib.Core.List.{List, [], _∷_, _++_}
+use Prim.Native.Nat.{ℕ, zero, suc, _-_, _/_, _%_, _<_}
+use lib.Dec.{eqb}
+use lib.ListN.{length, length-map}
+use borrow.Author.Tests.{eqb-true, eqb-false}
+use Rattle.laws.specs.Repeat.{repeated}
+use Rattle.laws.proofs.Lists.{getD-map}
+use Rattle.laws.proofs.Repeat.{repeated-keeps}
+use Rattle.laws.proofs.Tests.{by-test}
+use Rattle.emc2305_fan.specs.declared.Fan.{Fan}
+use Rattle.emc2305_chip.specs.declared.Bit.the-variants.{Stall, Spin}
+use Rattle.emc2305_chip.specs.declared.Chip.{Chip}
+use Rattle.emc2305_chip.specs.declared.Register.{Register}
+use Rattle.emc2305_chip.specs.State.{withPointer}
+use Rattle.emc2305_chip.specs.Map.{within, registerOf, isOfFan}
+use Rattle.emc2305_chip.specs.Fans.{noFan, bitCleared}
+use Rattle.emc2305_chip.specs.Registers.{onFan, fanStored, storedOf, clearedOf, storesAt, writtenAt, clearedAt}
+use Rattle.emc2305_chip.proofs.Moves.{cleared-keeps}
+use Rattle.emc2305_chip.proofs.Promises.{one-fan}
+use Rattle.emc2305.specs.Transfers.{byteWritten, inTurn, sent, byteRead}
+use Rattle.emc2305.proofs.ReadKeeps.{passed-keeps}
+use Rattle.emc2305.proofs.FansKept.{write-counts}
+use Rattle.emc2305_promises.specs.Ramp.{fanOf}
+use Rattle.emc2305_promises.specs.Alone.{Own, store, moveBy, played, ofByte, ofBytes, ofWrite, ofRead, ofReads}
+
+-- some traffic, and then more
+pub both : (first second : List Own) (f g last : Fan) → g ≡ played first f → last ≡ played second g → last ≡ played (first ++ second) f
+unfolding played
+both [] second f g last e d = d ∙ ap (played second) e
+both (own ∷ rest) second f g last e d = both rest second (moveBy own f) g last e d
+
+-- a byte read does not change how many fans there are
+abbrev count : Chip → ℕ
+count c = length (c .fans)
+
+reads-count : (n k : ℕ) (c : Chip) → count (repeated k (byteRead n) c) ≡ count c
+unfolding byteRead clearedAt
+reads-count n k c =
+    repeated-keeps count k (byteRead n) c
+    (λ d.
+    passed-keeps count n (clearedAt (d .pointer) d) (λ p. refl)
+    ∙ cleared-keeps count d refl (λ which. length-map (d .fans) _) (registerOf (d .pointer)))
+
+either : (P : Register → Type 0) (t : Bool) {x y : Register} → P x → P y → P (cond t x y)
+either P true p q = p
+either P false p q = q
+
+module _ (i : ℕ) where
+  -- a move of fan k + 1 reaches fan i + 1 where they are the same
+  pub one-own : (k : ℕ) (own : Own) (c : Chip) → i < length (c .fans)
+      → fanOf i (onFan k (moveBy own) c) ≡ played (cond (eqb k i) (own ∷ []) []) (fanOf i c)
+  unfolding played
+  one-own k own c h =
+      by-test (eqb k i) (λ t. rw (t, eqb-true k i t) (one-fan c i (moveBy own) .0 h))
+      (λ t. rw t (one-fan c k (moveBy own) .1 i (λ e. eqb-false k i t (sym e))))
+
+  -- a stored write, whatever stands at the address
+  stored-own : (a byte : ℕ) (c : Chip) → i < length (c .fans)
+      → fanOf i (storedOf (registerOf a) byte c) ≡ played (cond (isOfFan i (registerOf a)) (store (a % 0x10) byte ∷ []) []) (fanOf i c)
+  unfolding registerOf fanStored played
+  stored-own a byte c h =
+      let P : Register → Type 0 =
+      λ r. fanOf i (storedOf r byte c) ≡ played (cond (isOfFan i r) (store (a % 0x10) byte ∷ []) []) (fanOf i c) in
+      either P (eqb a 0x20) refl
+      (either P (eqb a 0x24) refl
+      (either P (eqb a 0x25) refl
+      (either P (eqb a 0x26) refl
+      (either P (eqb a 0x27) refl
+      (either P (eqb a 0x29) refl
+      (either P (within 0x2A 0x2D a) refl
+      (either P (within 0x30 0x7F a) (one-own ((a - 0x30) / 0x10) (store (a % 0x10) byte) c h)
+      (either P (eqb a 0xEF) refl
+      (either P (within 0xFC 0xFF a) refl refl)))))))))
+
+  pub byte-own : (n byte : ℕ) (c : Chip) → i < length (c .fans) → fanOf i (byteWritten n byte c) ≡ played (ofByte i byte c) (fanOf i c)
+  unfolding byteWritten writtenAt played
+  byte-own n byte c h =
+      let p = c .pointer in
+      passed-keeps (fanOf i) n (writtenAt p byte c) (λ q. refl)
+      ∙ by-test (storesAt c p) (λ t. rw (t, and-true (isOfFan i (registerOf p))) (stored-own p byte c h))
+      (λ t. rw (t, and-false (isOfFan i (registerOf p))))
+
+  bytes-own : (n : ℕ) (bytes : List ℕ) (c : Chip) → i < length (c .fans) → fanOf i (inTurn n bytes c) ≡ played (ofBytes i n bytes c) (fanOf i c)
+  unfolding inTurn ofBytes played
+  bytes-own n [] c h = refl
+  bytes-own n (byte ∷ rest) c h =
+      let d = byteWritten n byte c in
+      both (ofByte i byte c) (ofBytes i n rest d) (fanOf i c) (fanOf i d) _ (byte-own n byte c h)
+      (bytes-own n rest d (rw (write-counts n byte c) h))
+
+  pub sent-own : (bytes : List ℕ) (c : Chip) → i < length (c .fans) → fanOf i (sent bytes c) ≡ played (ofWrite i bytes c) (fanOf i c)
+  unfolding sent ofWrite played
+  sent-own [] c h = refl
+  sent-own (pointer ∷ rest) c h = bytes-own (length rest) rest (withPointer pointer c) h
+
+  -- a read, whatever stands at the address
+  cleared-own : (a : ℕ) (c : Chip) → i < length (c .fans) → fanOf i (clearedAt a c) ≡ played (ofRead a) (fanOf i c)
+  unfolding registerOf clearedAt played
+  cleared-own a c h =
+      let P : Register → Type 0 = λ r. fanOf i (clearedOf r c) ≡ fanOf i c in
+      by-test (eqb a 0x25) (λ t. rw (eqb-true a 0x25 t) (getD-map (bitCleared Stall) (c .fans) i noFan h))
+      (λ t.
+      by-test (eqb a 0x26) (λ u. rw (eqb-true a 0x26 u) (getD-map (bitCleared Spin) (c .fans) i noFan h))
+      (λ u.
+      rw (t, u)
+      (either P (eqb a 0x20) refl
+      (either P (eqb a 0x24) refl
+      (either P (eqb a 0x27) refl
+      (either P (eqb a 0x29) refl
+      (either P (within 0x2A 0x2D a) refl
+      (either P (within 0x30 0x7F a) refl
+      (either P (eqb a 0xEF) refl
+      (either P (within 0xFC 0xFF a) refl refl))))))))))
+
+  pub reads-own : (n k : ℕ) (c : Chip) → i < length (c .fans)
+      → fanOf i (repeated k (byteRead n) c) ≡ played (ofReads n k c) (fanOf i c)
+  unfolding repeated byteRead ofReads played
+  reads-own n zero c h = refl
+  reads-own n (suc k) c h =
+      let d = repeated k (byteRead n) c in
+      both (ofReads n k c) (ofRead (d .pointer)) (fanOf i c) (fanOf i d) _ (reads-own n k c h)
+      (passed-keeps (fanOf i) n (clearedAt (d .pointer) d) (λ q. refl) ∙ cleared-own (d .pointer) d (rw (reads-count n k c) h))

@@ -1,0 +1,76 @@
+-- A fan after events is what its own traffic makes of it (specs/Alone.antt).
+use mathlib.Core.Path.{_≡_, refl, sym, ap, _∙_}
+use mathlib.Core.Bool.{true, false, cond, false≢true}
+use mathlib.Core.List.{List, [], _∷_}
+use Prim.Native.Nat.{ℕ, zero, suc, _-_, _<_}
+use native.Mathlib.Omega.{arith}
+use lib.Dec.{leb}
+use lib.ListN.{length, getD, replicate}
+use borrow.Author.Tests.{leb-true}
+use Rattle.laws.specs.Buffer.{bytesAt}
+use Rattle.laws.specs.Repeat.{repeated}
+use Rattle.laws.proofs.Tests.{and-left, and-right}
+use Rattle.eventlog.specs.declared.Event.{Event}
+use Rattle.eventlog.specs.declared.Event.the-variants.{PowerOn, Ticks, Sample, Wish, Transfer}
+use Rattle.eventlog.specs.Range.{fanInRange, inRange}
+use Rattle.emc2305_fan.specs.declared.Fan.{Fan}
+use Rattle.emc2305_fan.specs.Tick.{ticked}
+use Rattle.emc2305_watchdog.specs.declared.Watch.the-variants.{Off}
+use Rattle.emc2305_watchdog.specs.Watch.{isOff}
+use Rattle.emc2305_chip.specs.declared.Chip.{Chip}
+use Rattle.emc2305_chip.specs.Registers.{atDefaults, fedChip}
+use Rattle.emc2305_chip.proofs.ChipTicks.{fan-ticks}
+use Rattle.emc2305.specs.Step.{taken}
+use Rattle.emc2305.proofs.FansKept.{five-fans}
+use Rattle.emc2305_promises.specs.Ramp.{Handed, next, isTaken, afterAll, throughout, fanOf, watchOff}
+use Rattle.emc2305_promises.specs.Alone.{tick, sample, wish, played, ofEvent, ownTraffic, Alone, NoFanWaits}
+use Rattle.emc2305_promises.proofs.Events.{is-off, same-fan, by-taken, first-rest}
+use Rattle.emc2305_promises.proofs.OwnBytes.{both, one-own, sent-own, reads-own}
+
+-- a step before n steps is one after them
+first-last : (n : ℕ) (f : Fan) → repeated n ticked (ticked f) ≡ ticked (repeated n ticked f)
+unfolding repeated
+first-last zero f = refl
+first-last (suc n) f = ap ticked (first-last n f)
+
+played-ticks : (n : ℕ) (f : Fan) → repeated n ticked f ≡ played (replicate n tick) f
+unfolding repeated played
+played-ticks zero f = refl
+played-ticks (suc n) f = sym (first-last n f) ∙ played-ticks n (ticked f)
+
+-- an event that is taken, with the watch off before it and after
+module _ (i : ℕ) (log : List ℕ) (c : Chip) (off : c .watch ≡ Off) (h : i < length (c .fans)) where
+  taken-own : (event : Event) → inRange log event ≡ true → isOff (taken log event c .watch) ≡ true
+      → fanOf i (taken log event c) ≡ played (ofEvent i log event c) (fanOf i c)
+  unfolding taken atDefaults
+  taken-own (PowerOn address) r e = absurd (false≢true e)
+  taken-own (Ticks n) r e = fan-ticks c i n off h .0 ∙ played-ticks n (fanOf i c)
+  taken-own (Sample fan n) r e =
+      let some = leb-true 1 fan (and-left (leb 1 fan) (leb fan 5) (and-left (fanInRange fan) (leb n 8191) r)) in
+      rw (off, ← same-fan fan i some) (one-own i (fan - 1) (sample n) c h)
+  taken-own (Wish fan drive) r e =
+      let some = leb-true 1 fan (and-left (leb 1 fan) (leb fan 5) r) in
+      rw (← same-fan fan i some) (one-own i (fan - 1) (wish drive) c h)
+  taken-own (Transfer true to place n) r e = reads-own i (getD log place 0) (getD log place 0) (fedChip c) h
+  taken-own (Transfer false to place n) r e = sent-own i (bytesAt log place n) (fedChip c) h
+
+pub event-own : (h : Handed) (c : Chip) (i : ℕ) → i < length (c .fans) → watchOff h c ≡ true
+    → fanOf i (next h c) ≡ played (cond (isTaken h c) (ofEvent i (h .log) (h .event) c) []) (fanOf i c)
+unfolding played
+event-own h c i l quiet =
+    let off = is-off (c .watch) (and-left (isOff (c .watch)) (isOff (next h c .watch)) quiet) in
+    let still = and-right (isOff (c .watch)) (isOff (next h c .watch)) quiet in
+    by-taken h c (λ t e r. rw (t, e) (taken-own i (h .log) c off l (h .event) r (rw e at still))) (λ t e. rw (t, e))
+
+pub alone : Alone
+unfolding throughout afterAll ownTraffic played
+alone i c [] five l quiet = refl
+alone i c (h ∷ rest) five l quiet =
+    let own = cond (isTaken h c) (ofEvent i (h .log) (h .event) c) [] in
+    let q = first-rest watchOff h rest c quiet in
+    both own (ownTraffic i rest (next h c)) (fanOf i c) (fanOf i (next h c)) _ (event-own h c i (omega arith) (q .0))
+    (alone i (next h c) rest (five-fans c (h .log) (h .event) (h .room) five) l (q .1))
+
+pub no-fan-waits : NoFanWaits
+no-fan-waits i c d events others five quiet calm same-before same-traffic =
+    alone i c events (five .0) (five .2) quiet ∙ rw (same-before, same-traffic) (sym (alone i d others (five .1) (five .2) calm))

@@ -1,0 +1,139 @@
+-- No fan waits: what becomes of a fan goes by what reaches that fan alone.
+use mathlib.Core.Path.{_≡_}
+use mathlib.Core.Bool.{true, false, cond}
+use mathlib.Core.List.{List, [], _∷_, _++_}
+use Prim.Native.Nat.{ℕ, zero, suc, _+_, _%_, _<_}
+use lib.Dec.{eqb}
+use lib.ListN.{length, getD, replicate}
+use Rattle.laws.specs.Buffer.{bytesAt}
+use Rattle.laws.specs.Repeat.{repeated}
+use Rattle.eventlog.specs.declared.Event.{Event}
+use Rattle.eventlog.specs.declared.Event.the-variants.{PowerOn, Ticks, Sample, Wish, Transfer}
+use Rattle.emc2305_fan.specs.declared.Fan.{Fan}
+use Rattle.emc2305_fan.specs.Drive.{wished}
+use Rattle.emc2305_fan.specs.Tick.{ticked}
+use Rattle.emc2305_fan.specs.Stored.{written}
+use Rattle.emc2305_fan.specs.Tach.{sampled}
+use Rattle.emc2305_chip.specs.declared.Bit.{Bit}
+use Rattle.emc2305_chip.specs.declared.Bit.the-variants.{Stall, Spin}
+use Rattle.emc2305_chip.specs.declared.Chip.{Chip}
+use Rattle.emc2305_chip.specs.State.{withFans, withPointer}
+use Rattle.emc2305_chip.specs.Fans.{bitCleared}
+use Rattle.emc2305_chip.specs.Registers.{fedChip}
+use Rattle.emc2305.specs.Transfers.{byteWritten, byteRead}
+use Rattle.emc2305.specs.Traffic.{byteStoresTo}
+use Rattle.emc2305.specs.Promises.{butStatus}
+use Rattle.emc2305_promises.specs.Ramp.{Handed, next, isTaken, afterAll, throughout, fanOf, watchOff}
+
+-- what reaches a fan: a tick, a sample, a wish, a stored byte at an offset, a read that clears a status bit of every fan
+pub data Own : Type 0 where
+  tick : Own
+  sample : ℕ → Own
+  wish : ℕ → Own
+  store : ℕ → ℕ → Own
+  clear : Bit → Own
+
+-- what that makes of the fan; no power-up watch runs
+abbrev pub moveBy : Own → Fan → Fan
+moveBy tick f = ticked f
+moveBy (sample count) f = sampled count false f
+moveBy (wish drive) f = wished drive f
+moveBy (store offset byte) f = written offset byte f
+moveBy (clear which) f = bitCleared which f
+
+-- one after the other
+unfoldable pub played : List Own → Fan → Fan
+played [] f = f
+played (own ∷ rest) f = played rest (moveBy own f)
+
+-- of a data byte that is written at the pointer, fan i + 1 gets it where it is stored to one of its registers
+abbrev pub ofByte : ℕ → ℕ → Chip → List Own
+ofByte i byte c = cond (byteStoresTo i c) (store (c .pointer % 16) byte ∷ []) []
+
+-- of data bytes in turn, n in all
+unfoldable pub ofBytes : ℕ → ℕ → List ℕ → Chip → List Own
+ofBytes i n [] c = []
+ofBytes i n (byte ∷ rest) c = ofByte i byte c ++ ofBytes i n rest (byteWritten n byte c)
+
+-- of the bytes of a write transfer, of which the first sets the pointer
+unfoldable pub ofWrite : ℕ → List ℕ → Chip → List Own
+ofWrite i [] c = []
+ofWrite i (pointer ∷ rest) c = ofBytes i (length rest) rest (withPointer pointer c)
+
+-- of a byte that is read at an address: 25h and 26h clear a bit
+abbrev pub ofRead : ℕ → List Own
+ofRead address = cond (eqb address 0x25) (clear Stall ∷ []) (cond (eqb address 0x26) (clear Spin ∷ []) [])
+
+-- of the first k bytes of a read transfer of n
+unfoldable pub ofReads : ℕ → ℕ → Chip → List Own
+ofReads n zero c = []
+ofReads n (suc k) c = ofReads n k c ++ ofRead (repeated k (byteRead n) c .pointer)
+
+-- of an event that is taken; a power-on starts the power-up watch, and is none of those spoken of here
+abbrev pub ofEvent : ℕ → List ℕ → Event → Chip → List Own
+ofEvent i log (PowerOn address) c = []
+ofEvent i log (Ticks count) c = replicate count tick
+ofEvent i log (Sample fan count) c = cond (eqb fan (i + 1)) (sample count ∷ []) []
+ofEvent i log (Wish fan drive) c = cond (eqb fan (i + 1)) (wish drive ∷ []) []
+ofEvent i log (Transfer reads to place n) c =
+    cond reads (ofReads (getD log place 0) (getD log place 0) (fedChip c)) (ofWrite i (bytesAt log place n) (fedChip c))
+
+-- of a sequence: nothing of an event that is refused
+unfoldable pub ownTraffic : ℕ → List Handed → Chip → List Own
+ownTraffic i [] c = []
+ownTraffic i (h ∷ rest) c = cond (isTaken h c) (ofEvent i (h .log) (h .event) c) [] ++ ownTraffic i rest (next h c)
+
+-- after any events over which the watch is off, a fan is what its own traffic makes of it
+abbrev pub Alone : Type 0
+Alone =
+    (i : ℕ) (c : Chip) (events : List Handed)
+    → length (c .fans) ≡ 5
+    → i < 5
+    → throughout watchOff events c ≡ true
+    → fanOf i (afterAll events c) ≡ played (ownTraffic i events c) (fanOf i c)
+
+-- two sequences, on chips that have this fan in common, that agree on its own traffic leave it the same, whatever they do to other fans
+abbrev pub NoFanWaits : Type 0
+NoFanWaits =
+    (i : ℕ) (c d : Chip) (events others : List Handed)
+    → (length (c .fans) ≡ 5) × (length (d .fans) ≡ 5) × (i < 5)
+    → throughout watchOff events c ≡ true
+    → throughout watchOff others d ≡ true
+    → fanOf i c ≡ fanOf i d
+    → ownTraffic i events c ≡ ownTraffic i others d
+    → fanOf i (afterAll events c) ≡ fanOf i (afterAll others d)
+
+-- traffic without the reads of 25h and 26h
+unfoldable pub butClears : List Own → List Own
+butClears [] = []
+butClears (tick ∷ rest) = tick ∷ butClears rest
+butClears (sample count ∷ rest) = sample count ∷ butClears rest
+butClears (wish drive ∷ rest) = wish drive ∷ butClears rest
+butClears (store offset byte ∷ rest) = store offset byte ∷ butClears rest
+butClears (clear which ∷ rest) = butClears rest
+
+-- where they agree on all but these reads, they leave it the same but for its bits of 25h and 26h
+abbrev pub StatusAside : Type 0
+StatusAside =
+    (i : ℕ) (c d : Chip) (events others : List Handed)
+    → (length (c .fans) ≡ 5) × (length (d .fans) ≡ 5) × (i < 5)
+    → throughout watchOff events c ≡ true
+    → throughout watchOff others d ≡ true
+    → butStatus (fanOf i c) ≡ butStatus (fanOf i d)
+    → butClears (ownTraffic i events c) ≡ butClears (ownTraffic i others d)
+    → butStatus (fanOf i (afterAll events c)) ≡ butStatus (fanOf i (afterAll others d))
+
+-- two chips that are alike but for their other four fans, which may be in any state
+abbrev pub AlikeBut : ℕ → Chip → Chip → Type 0
+AlikeBut i c d = (withFans (d .fans) c ≡ d) × (fanOf i c ≡ fanOf i d)
+
+-- over the same events, the watch being off, the same reaches the fan in both, and it becomes the same: the state of the others makes no difference
+abbrev pub OthersAside : Type 0
+OthersAside =
+    (i : ℕ) (c d : Chip) (events : List Handed)
+    → (length (c .fans) ≡ 5) × (length (d .fans) ≡ 5) × (i < 5)
+    → AlikeBut i c d
+    → throughout watchOff events c ≡ true
+    → (throughout watchOff events d ≡ true)
+    × (ownTraffic i events c ≡ ownTraffic i events d)
+    × (fanOf i (afterAll events c) ≡ fanOf i (afterAll events d))

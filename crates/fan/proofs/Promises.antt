@@ -1,6 +1,0 @@
--- The promises of a fan (specs/Promises.antt) that no other file here proves.
-use native.Mathlib.Omega.{arith}
-use Rattle.fan.specs.Promises.{ReadingRule}
-
-pub reading-rule : ReadingRule
-reading-rule c h = omega arith
