@@ -4,6 +4,7 @@ use crate::log::{check, Event, NO_ROOM, OTHER_ADDRESS, UNPOWERED};
 
 /// Registers: offsets within a fan's sixteen registers.
 pub const SETTING: usize = 0x0;
+pub const DIVIDE: usize = 0x1;
 pub const CONFIGURATION_1: usize = 0x2;
 pub const CONFIGURATION_2: usize = 0x3;
 pub const UNDEFINED: usize = 0x4;
@@ -12,7 +13,9 @@ pub const SPIN_UP: usize = 0x6;
 pub const MAX_STEP: usize = 0x7;
 pub const MINIMUM_DRIVE: usize = 0x8;
 pub const VALID_COUNT: usize = 0x9;
+pub const FAIL_BAND_LOW: usize = 0xA;
 pub const FAIL_BAND_HIGH: usize = 0xB;
+pub const TARGET_LOW: usize = 0xC;
 pub const TARGET_HIGH: usize = 0xD;
 pub const READING_HIGH: usize = 0xE;
 pub const READING_LOW: usize = 0xF;
@@ -80,7 +83,7 @@ impl SpinUp {
 }
 
 /// One fan: its registers (at offset 0 the stored Setting), its present drive, the loop's wish, the update clock and
-/// the spin-up if one runs.
+/// the spin-up if one runs. Its rules are public, so that a test can ask them of states that no log reaches.
 #[derive(Clone, Copy, Debug, PartialEq, Eq)]
 pub struct Fan {
     pub registers: [u8; 16],
@@ -92,7 +95,7 @@ pub struct Fan {
 
 impl Fan {
     /// Registers: "Power-on sets every default [...]; [...] drive, wish and update clocks are 0, no spin-up."
-    fn new() -> Fan {
+    pub fn power_on() -> Fan {
         Fan {
             registers: FAN_DEFAULTS,
             drive: 0,
@@ -103,17 +106,17 @@ impl Fan {
     }
 
     /// Drive: "Closed loop is Configuration 1 bit 7."
-    fn closed_loop(&self) -> bool {
+    pub fn closed_loop(&self) -> bool {
         self.registers[CONFIGURATION_1] & LOOP != 0
     }
 
     /// Goal: "closed loop with target high FFh, 0 ('driver off')".
-    fn driver_off(&self) -> bool {
+    pub fn driver_off(&self) -> bool {
         self.closed_loop() && self.registers[TARGET_HIGH] == 0xFF
     }
 
     /// Goal: direct, driver off, and closed loop otherwise.
-    fn goal(&self) -> u8 {
+    pub fn goal(&self) -> u8 {
         if !self.closed_loop() {
             self.registers[SETTING]
         } else if self.driver_off() {
@@ -124,7 +127,7 @@ impl Fan {
     }
 
     /// Ramp control: "always in closed loop with the driver on; in direct mode when Configuration 2 bit 6 is 1."
-    fn ramp_control(&self) -> bool {
+    pub fn ramp_control(&self) -> bool {
         if self.closed_loop() {
             !self.driver_off()
         } else {
@@ -132,24 +135,23 @@ impl Fan {
         }
     }
 
-    /// Step: "drive moves toward the goal by the smaller of step and distance"; "Max Step modulo 64; 0 never moves."
-    fn move_drive(&mut self) {
-        let goal = self.goal();
-        let step = (self.registers[MAX_STEP] % 64).min(self.drive.abs_diff(goal));
-        if goal > self.drive {
-            self.drive += step;
-        } else {
-            self.drive -= step;
-        }
+    /// Step: "Max Step modulo 64".
+    pub fn step(&self) -> u8 {
+        self.registers[MAX_STEP] % 64
+    }
+
+    /// Step: "Period by Configuration 1 bits 0..2".
+    pub fn period(&self) -> u16 {
+        PERIODS[usize::from(self.registers[CONFIGURATION_1] & 7)]
     }
 
     /// Step: "A fan's update clock counts up each tick under ramp control [...]; at the period it goes to 0 and drive
     /// moves".
     fn ramp(&mut self) {
         self.clock = self.clock.saturating_add(1);
-        if self.clock >= PERIODS[usize::from(self.registers[CONFIGURATION_1] & 7)] {
+        if self.clock >= self.period() {
             self.clock = 0;
-            self.move_drive();
+            self.drive = moved(self.drive, self.goal(), self.step());
         }
     }
 
@@ -163,18 +165,19 @@ impl Fan {
     /// Spin-up: "After the last tick the reading's high byte is compared"; true when it is above Valid Count.
     fn finish_spin_up(&mut self, level: u8) -> bool {
         let failed = self.registers[READING_HIGH] > self.registers[VALID_COUNT];
-        self.clock = 0;
         if failed && self.closed_loop() {
             self.start_spin_up();
         } else {
             self.spin_up = None;
+            self.clock = 0;
             self.drive = if self.ramp_control() { level } else { self.goal() };
         }
         failed
     }
 
     /// "Each tick a fan takes": one of the spin-up or one of the ramp; true when a spin-up failed in it.
-    fn tick(&mut self) -> bool {
+    #[inline] // `Chip::tick` is slower without
+    pub fn tick(&mut self) -> bool {
         if let Some(spin_up) = &mut self.spin_up {
             spin_up.elapsed = spin_up.elapsed.saturating_add(1);
             if spin_up.elapsed >= spin_up.length {
@@ -189,16 +192,16 @@ impl Fan {
     }
 
     /// Drive: "A wish is kept only in closed loop, else it is taken and does nothing."
-    fn take_wish(&mut self, drive: u8) {
+    pub fn take_wish(&mut self, drive: u8) {
         if self.closed_loop() {
             self.wish = drive;
         }
     }
 
-    /// Tach: "A sample c makes the reading registers c x 8"; true when it is a stall, which in closed loop starts a
-    /// spin-up (b).
-    fn sample(&mut self, count: u16, power_up_watch: bool) -> bool {
-        let [high, low] = (count * 8).to_be_bytes();
+    /// Tach: "A sample c makes the reading registers c x 8", of which a count past 8191 leaves its low 13 bits; true when
+    /// it is a stall, which in closed loop starts a spin-up (b).
+    pub fn sample(&mut self, count: u16, power_up_watch: bool) -> bool {
+        let [high, low] = count.wrapping_mul(8).to_be_bytes();
         self.registers[READING_HIGH] = high;
         self.registers[READING_LOW] = low;
         let judged = self.drive > 0 && self.spin_up.is_none() && !power_up_watch;
@@ -209,21 +212,31 @@ impl Fan {
         stall
     }
 
-    /// Registers and Drive: whether a write at this offset is stored. "Offset 4 is undefined. Offsets 3 and 5 to B are
-    /// locked. E and F are read only"; "In closed loop a Setting write stores nothing."
-    fn stores(&self, offset: usize, locked: bool) -> bool {
+    /// Drive: "Reading Setting shows the present drive"; Registers: "Offset 4 is undefined", and so is any past F.
+    pub fn register(&self, offset: usize) -> u8 {
+        match offset {
+            SETTING => self.drive,
+            UNDEFINED => 0x00,
+            _ => self.registers.get(offset).copied().unwrap_or(0x00),
+        }
+    }
+
+    /// Registers and Drive: whether a write at this offset is stored. "Offset 4 is undefined", and so is any past F;
+    /// "Offsets 3 and 5 to B are locked. E and F are read only"; "In closed loop a Setting write stores nothing."
+    pub fn stores(&self, offset: usize, locked: bool) -> bool {
         match offset {
             SETTING => !self.closed_loop(),
             CONFIGURATION_2 | GAIN..=FAIL_BAND_HIGH => !locked,
             UNDEFINED | READING_HIGH | READING_LOW => false,
-            _ => true,
+            _ => offset < self.registers.len(),
         }
     }
 
     /// Drive and Spin-up: one stored write to a register of the fan: the byte, the wish at turning the loop on, the
     /// clock, then by the new goal exactly one of spin-up ended, spin-up running on, spin-up started, drive at the
-    /// goal without ramp control, or nothing.
-    fn stored_write(&mut self, offset: usize, byte: u8) {
+    /// goal without ramp control, or nothing. The offset is one that stores.
+    #[inline] // `Chip::write_fan` is slower without
+    pub fn stored_write(&mut self, offset: usize, byte: u8) {
         let drive_before = self.drive;
         let closed_before = self.closed_loop();
         self.registers[offset] = byte;
@@ -248,12 +261,22 @@ impl Fan {
     }
 
     /// Watchdog: "every fan gets Setting FFh, drive 255, loop off, spin-up ended, update clock 0."
-    fn full_drive(&mut self) {
+    pub fn full_drive(&mut self) {
         self.registers[SETTING] = 0xFF;
         self.registers[CONFIGURATION_1] &= !LOOP;
         self.drive = 255;
         self.clock = 0;
         self.spin_up = None;
+    }
+}
+
+/// Step: "drive moves toward the goal by the smaller of step and distance"; "0 never moves."
+pub fn moved(drive: u8, goal: u8, step: u8) -> u8 {
+    let step = step.min(drive.abs_diff(goal));
+    if goal > drive {
+        drive + step
+    } else {
+        drive - step
     }
 }
 
@@ -303,7 +326,7 @@ impl Chip {
             pwm: [0; 4],
             lock: 0,
             watch: Watch::Off,
-            fans: [Fan::new(); 5],
+            fans: [Fan::power_on(); 5],
         }
     }
 
@@ -446,7 +469,7 @@ impl Chip {
             0x26 => std::mem::take(&mut self.spin_status),
             0x29 => self.interrupt_enable,
             0x2A..=0x2D => self.pwm[usize::from(register - 0x2A)],
-            0x30..=0x7F => self.read_fan(fan_index(register), offset(register)),
+            0x30..=0x7F => self.fans[fan_index(register)].register(offset(register)),
             0xEF => self.lock,
             0xFC..=0xFF => IDENTITY[usize::from(register - 0xFC)],
             _ => 0x00,
@@ -457,16 +480,6 @@ impl Chip {
     fn read_status(&mut self) -> u8 {
         let watch = std::mem::take(&mut self.watch_status);
         u8::from(watch) << 7 | u8::from(self.spin_status != 0) << 1 | u8::from(self.stall_status != 0)
-    }
-
-    /// Drive: "Reading Setting shows the present drive"; Registers: "Offset 4 is undefined."
-    fn read_fan(&self, index: usize, offset: usize) -> u8 {
-        let fan = &self.fans[index];
-        match offset {
-            SETTING => fan.drive,
-            UNDEFINED => 0x00,
-            _ => fan.registers[offset],
-        }
     }
 
     /// Registers: "Writable bytes are stored whole"; a write to an undefined or read-only register stores nothing;
