@@ -1,0 +1,75 @@
+//! Events, their words, and their records.
+
+use model::log::{write, Event};
+
+/// The longest record: a transfer that sends 32 bytes.
+pub const LONGEST_RECORD: usize = 37;
+
+pub fn power_on(address: u8) -> Event {
+    Event::PowerOn { address }
+}
+
+pub fn ticks(count: u16) -> Event {
+    Event::Ticks { count }
+}
+
+pub fn sample(fan: u8, count: u16) -> Event {
+    Event::Sample { fan, count }
+}
+
+pub fn wish(fan: u8, drive: u8) -> Event {
+    Event::Wish { fan, drive }
+}
+
+/// A transfer that writes.
+pub fn send(address: u8, place: usize, length: usize) -> Event {
+    Event::Transfer {
+        address,
+        read: false,
+        place,
+        length,
+    }
+}
+
+/// A transfer that reads.
+pub fn clock(address: u8, place: usize, length: usize) -> Event {
+    Event::Transfer {
+        address,
+        read: true,
+        place,
+        length,
+    }
+}
+
+/// An event's name, as the test programs write it.
+pub fn name(event: &Event) -> &'static str {
+    match event {
+        Event::PowerOn { .. } => "power-on",
+        Event::Ticks { .. } => "ticks",
+        Event::Sample { .. } => "sample",
+        Event::Wish { .. } => "wish",
+        Event::Transfer { read: false, .. } => "send",
+        Event::Transfer { read: true, .. } => "clock",
+    }
+}
+
+/// An event's name and its numbers.
+pub fn words(event: &Event) -> String {
+    let name = name(event);
+    match *event {
+        Event::PowerOn { address } => format!("{name} {address}"),
+        Event::Ticks { count } => format!("{name} {count}"),
+        Event::Sample { fan, count } => format!("{name} {fan} {count}"),
+        Event::Wish { fan, drive } => format!("{name} {fan} {drive}"),
+        Event::Transfer {
+            address, place, length, ..
+        } => format!("{name} {address} {place} {length}"),
+    }
+}
+
+/// The record of an event that is in range, by the model's writer.
+pub fn record(event: &Event, log: &[u8]) -> Vec<u8> {
+    let mut space = [0; LONGEST_RECORD];
+    let laid = write(event, log, &mut space).expect("the event is in range");
+    space[..laid].to_vec()
+}

@@ -1,0 +1,214 @@
+//! The cases of host/c/check.c, which calls the C library, and its answers. Each is a line in the words that check.c
+//! explains; the numbers that stand for an event are those of include/cobblehard.h.
+
+use crate::chance::Chance;
+use crate::events;
+use crate::logs::{example, random_logs, short, sprinkled, stops, traffic, truncations, written_logs};
+use crate::script::{hex, Script};
+use model::log::{read, write, Event, FIELD, UNKNOWN_KIND};
+use model::replay::run;
+use std::collections::BTreeSet;
+
+/// What check.c lays in buffers and numbers before a call.
+const FILL: u8 = 0xEE;
+const PRESET_8: u8 = 0xA5;
+const PRESET_16: u16 = 0xA5A5;
+const PRESET_64: u64 = 0xA5A5_A5A5_A5A5_A5A5;
+
+const LONGEST_REPLY: usize = 32;
+
+pub fn script() -> Script {
+    let (mut script, chance) = (Script::default(), Chance::new(20_262_305));
+    let mut logs = written_logs();
+    logs.extend(random_logs(5032, 40).into_iter().map(|(_, log)| log));
+    logs.extend(truncations(&short()).map(<[u8]>::to_vec));
+    logs.extend((0..2).map(|_| traffic(&chance, 1000)));
+    for log in logs {
+        run_cases(&mut script, &log, &chance);
+    }
+    let mut logs = vec![vec![], example(), short()];
+    logs.extend(stops(&example()[..5], &short()[..12]).into_iter().map(|(_, log)| log));
+    logs.extend((0..6).map(|_| sprinkled(&chance, 100)));
+    for log in logs {
+        read_cases(&mut script, &log);
+    }
+    for kind in [0, 1, 2, 3, 4, 5, 6, 255] {
+        all_write_cases(&mut script, kind);
+    }
+    script
+}
+
+// ---- runs ----
+
+/// No room, one byte, the replies' own length, one less, plenty, and any.
+fn run_cases(script: &mut Script, log: &[u8], chance: &Chance) {
+    let exact = run(log, &mut vec![0; LONGEST_REPLY * log.len()]).reply_bytes;
+    let any = chance.below(exact as u64 + 2);
+    for room in BTreeSet::from([0, 1, exact, exact.saturating_sub(1), exact + 40, any]) {
+        let answer = run_answer(log, room);
+        for (size, text) in pairs(room, log) {
+            script.add_text(&format!("run {size} {text}"), &answer);
+        }
+    }
+}
+
+fn run_answer(log: &[u8], room: usize) -> String {
+    let mut replies = vec![FILL; room];
+    let run = run(log, &mut replies);
+    let numbers = format!("{} {} {} {}", run.number, run.place, run.records, run.reply_bytes);
+    format!("{numbers} {}", hex_or_dot(&replies))
+}
+
+// ---- reads ----
+
+/// Every place, some past the end, and the largest.
+fn read_cases(script: &mut Script, log: &[u8]) {
+    let length = log.len();
+    let far = [
+        length + (1 << 32),
+        1 << 63,
+        usize::MAX - length,
+        usize::MAX - 1,
+        usize::MAX,
+    ];
+    for place in (0..length + 3).chain(far) {
+        let answer = read_answer(log, place);
+        for text in slices(log) {
+            script.add_text(&format!("read {place} {text}"), &answer);
+        }
+    }
+}
+
+/// A refusal leaves the numbers as they were; at the end all but the place are 0.
+fn read_answer(log: &[u8], place: usize) -> String {
+    match read(log, place) {
+        Ok(Some((event, next))) => format!("0 {} {next}", event_numbers(&event)),
+        Ok(None) => format!("0 0 0 0 0 0 {place}"),
+        Err(number) => format!("{number} {PRESET_8} {PRESET_8} {PRESET_16} {PRESET_64} {PRESET_64} {PRESET_64}"),
+    }
+}
+
+/// Kind, unit, value, place and count of the bytes.
+fn event_numbers(event: &Event) -> String {
+    match *event {
+        Event::PowerOn { address } => format!("1 {address} 0 0 0"),
+        Event::Ticks { count } => format!("2 0 {count} 0 0"),
+        Event::Sample { fan, count } => format!("3 {fan} {count} 0 0"),
+        Event::Wish { fan, drive } => format!("4 {fan} {drive} 0 0"),
+        Event::Transfer {
+            address,
+            read,
+            place,
+            length,
+        } => format!("5 {address} {} {place} {length}", u8::from(read)),
+    }
+}
+
+// ---- writes ----
+
+/// Every unit and value at its edges, and bytes of several lengths; those of a kind that has none are not looked at.
+fn all_write_cases(script: &mut Script, kind: u8) {
+    let sent = if kind == 5 {
+        sent()
+    } else {
+        vec![vec![], vec![1], vec![0; 40]]
+    };
+    for unit in [0, 1, 5, 6, 127, 128, 255] {
+        for value in [0, 1, 2, 255, 256, 8191, 8192, 65535] {
+            for bytes in &sent {
+                write_cases(script, kind, unit, value, bytes);
+            }
+        }
+    }
+}
+
+/// What a transfer sends, or the count that it reads.
+fn sent() -> Vec<Vec<u8>> {
+    let mut sent = Vec::new();
+    for length in [1, 2, 32, 33, 40] {
+        sent.extend([1, 32].map(|first| std::iter::once(first).chain(1..length).collect()));
+    }
+    sent.extend([vec![], vec![0x00], vec![0x21], vec![0xFF]]);
+    sent
+}
+
+/// No room, one byte too few, the record's own length, and plenty.
+fn write_cases(script: &mut Script, kind: u8, unit: u8, value: u16, sent: &[u8]) {
+    let length = match kind {
+        2 | 4 => 6,
+        3 => 7,
+        5 => 5 + sent.len(),
+        _ => 5,
+    };
+    for room in [0, length - 1, length, length + 40] {
+        let answer = write_answer(kind, unit, value, room, sent);
+        for (size, text) in pairs(room, sent) {
+            script.add_text(&format!("write {kind} {unit} {value} {size} {text}"), &answer);
+        }
+    }
+}
+
+/// A refusal leaves the buffer and the number as they were.
+fn write_answer(kind: u8, unit: u8, value: u16, room: usize, sent: &[u8]) -> String {
+    let mut buffer = vec![FILL; room];
+    let event = event_of_numbers(kind, unit, value, sent.len());
+    let numbers = match event.and_then(|event| write(&event, sent, &mut buffer)) {
+        Ok(written) => format!("0 {written}"),
+        Err(number) => format!("{number} {PRESET_64}"),
+    };
+    format!("{numbers} {}", hex_or_dot(&buffer))
+}
+
+/// The event that numbers stand for: 3 for an unknown kind, 5 for a drive or a direction that is none.
+fn event_of_numbers(kind: u8, unit: u8, value: u16, length: usize) -> Result<Event, u8> {
+    match (kind, value) {
+        (1, _) => Ok(events::power_on(unit)),
+        (2, _) => Ok(events::ticks(value)),
+        (3, _) => Ok(events::sample(unit, value)),
+        (4, _) => match u8::try_from(value) {
+            Ok(drive) => Ok(events::wish(unit, drive)),
+            Err(_) => Err(FIELD),
+        },
+        (5, 0) => Ok(events::send(unit, 0, length)),
+        (5, 1) => Ok(events::clock(unit, 0, length)),
+        (5, _) => Err(FIELD),
+        _ => Err(UNKNOWN_KIND),
+    }
+}
+
+// ---- the words of check.c ----
+
+fn hex_or_dot(bytes: &[u8]) -> String {
+    if bytes.is_empty() {
+        ".".into()
+    } else {
+        hex(bytes)
+    }
+}
+
+/// Bytes; of none both a pointer to nothing and NULL.
+fn slices(bytes: &[u8]) -> Vec<String> {
+    let text = hex_or_dot(bytes);
+    if bytes.is_empty() {
+        vec![text, "-".into()]
+    } else {
+        vec![text]
+    }
+}
+
+/// A room; of none both a pointer to nothing and NULL.
+fn rooms(room: usize) -> Vec<String> {
+    let text = room.to_string();
+    if room == 0 {
+        vec![text, "-".into()]
+    } else {
+        vec![text]
+    }
+}
+
+/// Each way to say a room with each way to say bytes.
+fn pairs(room: usize, bytes: &[u8]) -> Vec<(String, String)> {
+    let (rooms, slices) = (rooms(room), slices(bytes));
+    let with_each = |size: &String| -> Vec<_> { slices.iter().map(|text| (size.clone(), text.clone())).collect() };
+    rooms.iter().flat_map(with_each).collect()
+}
