@@ -1,13 +1,16 @@
 // Runs the cases on standard input over the event log's reader and writer, and writes a line for each. The files stdin
-// and stdout hold the cases and the lines, both made by tests/eventlog_expected.py from document 01 alone.
+// and stdout hold the cases and the lines, both made by host/expected with a model written from document 01 alone.
 mod reading;
 mod show;
 mod writing;
 
 use libc::STDIN_FILENO;
 
+// The most bytes of input that are read.
+const SPACE: usize = 262144;
+
 fn main() {
-    let mut space = io::large_buffer();
+    let mut space = [0u8; SPACE];
     let len = io::read_full(STDIN_FILENO, &mut space);
     run(&space[..len]);
 }
