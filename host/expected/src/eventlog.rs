@@ -2,7 +2,7 @@
 
 use crate::chance::Chance;
 use crate::events::{clock, name, power_on, sample, send, ticks, wish, words};
-use crate::script::{bytes, code, hex_or_dash, rows, Script};
+use crate::script::{bytes, code, hex_or, rows, Script};
 use model::log::{check, read, write, Event};
 
 const LARGEST: usize = usize::MAX;
@@ -36,7 +36,7 @@ fn shown(event: &Event, log: &[u8]) -> String {
         return words(event);
     };
     let sent = place.checked_add(length).and_then(|end| log.get(place..end));
-    let sent = sent.map_or("?".into(), hex_or_dash);
+    let sent = sent.map_or("?".into(), |sent| hex_or("-", sent));
     format!("{} {address} at {place} len {length} {sent}", name(event))
 }
 
@@ -58,20 +58,20 @@ fn number_at_start(log: &[u8]) -> String {
 }
 
 fn read_case(script: &mut Script, log: &[u8], place: usize) {
-    let line = format!("read {} at {place}: {}", hex_or_dash(log), reading(log, place));
+    let line = format!("read {} at {place}: {}", hex_or("-", log), reading(log, place));
     script.add(b'r', &[&[code(place)], log].concat(), &line);
 }
 
 /// Every prefix, the empty one first.
 fn cut_case(script: &mut Script, log: &[u8]) {
     let numbers: Vec<String> = (0..=log.len()).map(|length| number_at_start(&log[..length])).collect();
-    let line = format!("cut {}: {}", hex_or_dash(log), numbers.join(" "));
+    let line = format!("cut {}: {}", hex_or("-", log), numbers.join(" "));
     script.add(b'c', log, &line);
 }
 
 /// Every value of one byte: 'v=number' where the number is not that of the value before.
 fn vary_case(script: &mut Script, log: &[u8], at: u8) {
-    let mut line = format!("vary {} byte {at}:", hex_or_dash(log));
+    let mut line = format!("vary {} byte {at}:", hex_or("-", log));
     let (mut varied, mut last) = (log.to_vec(), String::new());
     for value in 0..=255 {
         varied[usize::from(at)] = value;
@@ -93,7 +93,7 @@ fn write_case(script: &mut Script, event: &Event, log: &[u8], room: u8) {
         Err(number) => ("refused", number.into()),
     };
     let mut line = format!("write {} room {room}: range {range} ", shown(event, log));
-    line += &format!("{answer} {number} {}", hex_or_dash(&buffer));
+    line += &format!("{answer} {number} {}", hex_or("-", &buffer));
     if answer == "laid" {
         line += &format!(" back {}", reading(&buffer, 0));
     }
@@ -123,7 +123,7 @@ fn again_case(script: &mut Script, record: &[u8]) {
         .expect("the log has a record");
     let mut buffer = [FILL; 40];
     let laid = write(&event, record, &mut buffer).expect("there is room for a record");
-    let (reading, again) = (reading(record, 0), hex_or_dash(&buffer[..laid]));
+    let (reading, again) = (reading(record, 0), hex_or("-", &buffer[..laid]));
     script.add(b'a', record, &format!("again {reading} laid {laid} {again}"));
 }
 

@@ -4,7 +4,7 @@
 use crate::chance::Chance;
 use crate::events;
 use crate::logs::{example, random_logs, short, sprinkled, stops, traffic, truncations, written_logs};
-use crate::script::{hex, Script};
+use crate::script::{hex_or, Script};
 use model::log::{read, write, Event, FIELD, UNKNOWN_KIND};
 use model::replay::run;
 use std::collections::BTreeSet;
@@ -46,8 +46,10 @@ fn run_cases(script: &mut Script, log: &[u8], chance: &Chance) {
     let any = chance.below(exact as u64 + 2);
     for room in BTreeSet::from([0, 1, exact, exact.saturating_sub(1), exact + 40, any]) {
         let answer = run_answer(log, room);
-        for (size, text) in pairs(room, log) {
-            script.add_text(&format!("run {size} {text}"), &answer);
+        for size in rooms(room) {
+            for text in slices(log) {
+                script.add_text(&format!("run {size} {text}"), &answer);
+            }
         }
     }
 }
@@ -56,7 +58,7 @@ fn run_answer(log: &[u8], room: usize) -> String {
     let mut replies = vec![FILL; room];
     let run = run(log, &mut replies);
     let numbers = format!("{} {} {} {}", run.number, run.place, run.records, run.reply_bytes);
-    format!("{numbers} {}", hex_or_dot(&replies))
+    format!("{numbers} {}", hex_or(".", &replies))
 }
 
 // ---- reads ----
@@ -142,8 +144,10 @@ fn write_cases(script: &mut Script, kind: u8, unit: u8, value: u16, sent: &[u8])
     };
     for room in [0, length - 1, length, length + 40] {
         let answer = write_answer(kind, unit, value, room, sent);
-        for (size, text) in pairs(room, sent) {
-            script.add_text(&format!("write {kind} {unit} {value} {size} {text}"), &answer);
+        for size in rooms(room) {
+            for text in slices(sent) {
+                script.add_text(&format!("write {kind} {unit} {value} {size} {text}"), &answer);
+            }
         }
     }
 }
@@ -156,10 +160,10 @@ fn write_answer(kind: u8, unit: u8, value: u16, room: usize, sent: &[u8]) -> Str
         Ok(written) => format!("0 {written}"),
         Err(number) => format!("{number} {PRESET_64}"),
     };
-    format!("{numbers} {}", hex_or_dot(&buffer))
+    format!("{numbers} {}", hex_or(".", &buffer))
 }
 
-/// The event that numbers stand for: 3 for an unknown kind, 5 for a drive or a direction that is none.
+/// The event that numbers stand for. The header: 3 for an unknown kind, 5 for a drive or a direction that is none.
 fn event_of_numbers(kind: u8, unit: u8, value: u16, length: usize) -> Result<Event, u8> {
     match (kind, value) {
         (1, _) => Ok(events::power_on(unit)),
@@ -178,37 +182,20 @@ fn event_of_numbers(kind: u8, unit: u8, value: u16, length: usize) -> Result<Eve
 
 // ---- the words of check.c ----
 
-fn hex_or_dot(bytes: &[u8]) -> String {
-    if bytes.is_empty() {
-        ".".into()
-    } else {
-        hex(bytes)
-    }
-}
-
 /// Bytes; of none both a pointer to nothing and NULL.
 fn slices(bytes: &[u8]) -> Vec<String> {
-    let text = hex_or_dot(bytes);
-    if bytes.is_empty() {
-        vec![text, "-".into()]
-    } else {
-        vec![text]
-    }
+    or_null(hex_or(".", bytes), bytes.is_empty())
 }
 
 /// A room; of none both a pointer to nothing and NULL.
 fn rooms(room: usize) -> Vec<String> {
-    let text = room.to_string();
-    if room == 0 {
+    or_null(room.to_string(), room == 0)
+}
+
+fn or_null(text: String, none: bool) -> Vec<String> {
+    if none {
         vec![text, "-".into()]
     } else {
         vec![text]
     }
-}
-
-/// Each way to say a room with each way to say bytes.
-fn pairs(room: usize, bytes: &[u8]) -> Vec<(String, String)> {
-    let (rooms, slices) = (rooms(room), slices(bytes));
-    let with_each = |size: &String| -> Vec<_> { slices.iter().map(|text| (size.clone(), text.clone())).collect() };
-    rooms.iter().flat_map(with_each).collect()
 }

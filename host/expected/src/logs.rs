@@ -6,8 +6,7 @@ use crate::emc2305::{at, CONFIGURATION, FANS, HOME, IDENTITY, STALL, STATUS};
 use crate::events::{self, record};
 use crate::script::{bytes, rows};
 use model::chip::SETTING;
-
-pub const MARK: [u8; 2] = [0x9C, 0x46];
+use model::log::MARK;
 
 // ---- records ----
 

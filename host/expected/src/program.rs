@@ -6,10 +6,11 @@ use crate::emc2305::HOME;
 use crate::events::LONGEST_RECORD;
 use crate::logs::{
     clock, endings, example, other_addresses, power_on, power_on_at, random_logs, sample, send, send_to, short, stops,
-    sweep, ticks, traffic, truncations, unpowered, wish, MARK,
+    sweep, ticks, traffic, truncations, unpowered, wish,
 };
 use crate::script::{bytes, hex, Script};
 use model::listing::list;
+use model::log::MARK;
 
 /// The program's buffer.
 const WINDOW: usize = 65536;

@@ -47,10 +47,10 @@ pub fn hex(bytes: &[u8]) -> String {
     bytes.iter().map(|byte| format!("{byte:02x}")).collect()
 }
 
-/// Two digits a byte, or '-' where there is none.
-pub fn hex_or_dash(bytes: &[u8]) -> String {
+/// Two digits a byte, or a word where there is none.
+pub fn hex_or(none: &str, bytes: &[u8]) -> String {
     if bytes.is_empty() {
-        "-".into()
+        none.into()
     } else {
         hex(bytes)
     }

@@ -3,7 +3,7 @@
 use super::{at, CONFIGURATION, FANS, HOME};
 use crate::emc2305_fan::ON;
 use crate::events::{self, words};
-use crate::script::{byte, code, hex_or_dash, Script};
+use crate::script::{byte, code, hex_or, Script};
 use model::chip::{Chip, Watch, CONFIGURATION_1, SETTING, SPIN_UP, TARGET_HIGH};
 use model::log::Event;
 
@@ -85,9 +85,9 @@ impl Bench {
         };
         let mut line = words(event);
         if matches!(event, Event::Transfer { .. }) {
-            line += &format!(" {}", hex_or_dash(log));
+            line += &format!(" {}", hex_or("-", log));
         }
-        line += &format!(": {number} {laid} {}{}", hex_or_dash(&buffer), self.state());
+        line += &format!(": {number} {laid} {}{}", hex_or("-", &buffer), self.state());
         self.script.add(which, data, &line);
     }
 

@@ -137,6 +137,10 @@ fn spaced(bytes: impl Iterator<Item = u8>) -> String {
     bytes.map(|byte| format!(" {byte:02X}")).collect()
 }
 
+fn listed(offsets: impl Iterator<Item = usize>) -> String {
+    offsets.map(|offset| format!(" {offset}")).collect()
+}
+
 /// Each command acts on the fan that the one before it left.
 pub struct Bench {
     pub script: Script,
@@ -249,11 +253,8 @@ impl Bench {
     /// Which offsets are locked, and which store now.
     pub fn offsets(&mut self) {
         let fan = &self.state.fan;
-        let of = |holds: &dyn Fn(usize) -> bool| -> String {
-            let those = (0..ASKED).filter(|offset| holds(*offset));
-            those.map(|offset| format!(" {offset}")).collect()
-        };
-        let (locked, stores) = (of(&is_locked), of(&|offset| fan.stores(offset, false)));
+        let locked = listed((0..ASKED).filter(|&offset| is_locked(offset)));
+        let stores = listed((0..ASKED).filter(|&offset| fan.stores(offset, false)));
         self.script.add(b'o', &[], &format!("locked{locked} stores{stores}"));
     }
 
