@@ -1,21 +1,17 @@
 #!/usr/bin/env python3
-"""Builds the C programs of host/c with the library, and compares its answers with what document 01 and the header say.
+"""Builds the C programs of host/c with the library, and compares its answers with those of the independent model.
 
     python3 tests/library_test.py target/staticlib/libcobblehard.a
 
-Runs are replay_expected's, records those of eventlog_expected. Each program is built twice, the second time with
-gcc's address and undefined behaviour sanitizers.
+The cases are those of host/expected/src/library.rs. Each program is built twice, the second time with gcc's address and
+undefined behaviour sanitizers.
 """
 import pathlib
 import subprocess
 import sys
 import tempfile
 
-import eventlog_expected as eventlog
-import replay_expected as replay
-from eventlog_expected import LARGEST
-from expected import Chance
-from replay_expected import EXAMPLE, SHORT
+import host
 
 ROOT = pathlib.Path(__file__).resolve().parent.parent
 HOST = ROOT / "host" / "c"
@@ -23,143 +19,10 @@ STRICT = ["-std=c11", "-Wall", "-Wextra", "-Werror", "-I", ROOT / "include"]
 BUILDS = {"plain": [], "sanitized": ["-g", "-fsanitize=address,undefined", "-fno-sanitize-recover=all"]}
 TIMEOUT = 120  # seconds, after which a program counts as hanging
 
-# what check.c lays in buffers and numbers before a call
-FILL = 0xEE
-PRESET_8, PRESET_16, PRESET_64 = 0xA5, 0xA5A5, 0xA5A5A5A5A5A5A5A5
-
 
 def fail(name, text):
     sys.exit(f"library_test: {name}: {text}")
 
-
-# ---- what the library must answer ----
-
-def buffer_text(laid, room):
-    """A buffer after a call, in check's words."""
-    return (laid + bytes([FILL]) * (room - len(laid))).hex() or "."
-
-
-def run_answer(log, room):
-    number, place, records, replies = replay.run(log, room)
-    return f"{number} {place} {records} {len(replies)} {buffer_text(replies, room)}"
-
-
-def event_numbers(event):
-    """Kind, unit, value, place and count of the bytes, as the header lays them out."""
-    name, *data = event
-    if name == "power-on":
-        return 1, data[0], 0, 0, 0
-    if name == "ticks":
-        return 2, 0, data[0], 0, 0
-    if name == "sample":
-        return 3, *data, 0, 0
-    if name == "wish":
-        return 4, *data, 0, 0
-    address, place, length = data
-    return 5, address, int(name == "clock"), place, length
-
-
-def read_answer(log, place):
-    """A refusal leaves the numbers as they were; at the end all but the place are 0."""
-    number, *found = eventlog.read(log, place)
-    if number == "end":
-        answer = (0, 0, 0, 0, 0, 0, place)
-    elif number == 0:
-        event, after = found
-        answer = (0, *event_numbers(event), after)
-    else:
-        answer = (number, PRESET_8, PRESET_8, PRESET_16, PRESET_64, PRESET_64, PRESET_64)
-    return " ".join(map(str, answer))
-
-
-def event_of_numbers(kind, unit, value, sent):
-    """The event of a known kind, or None where a transfer's direction is neither."""
-    if kind == 1:
-        return eventlog.power_on(unit)
-    if kind == 2:
-        return eventlog.ticks(value)
-    if kind == 3:
-        return eventlog.sample(unit, value)
-    if kind == 4:
-        return eventlog.wish(unit, value)
-    if value > 1:
-        return None
-    return (eventlog.clock if value else eventlog.send)(unit, 0, len(sent))
-
-
-def write_answer(kind, unit, value, room, sent):
-    """3 for an unknown kind, then 5, then 8; a refusal leaves the buffer and the number as they were."""
-    buffer = bytearray([FILL] * room)
-    if kind not in range(1, 6):
-        answer, number = "refused", 3
-    elif event_of_numbers(kind, unit, value, sent) is None:
-        answer, number = "refused", 5
-    else:
-        answer, number = eventlog.write(event_of_numbers(kind, unit, value, sent), sent, buffer)
-    numbers = f"{number} {PRESET_64}" if answer == "refused" else f"0 {number}"
-    return f"{numbers} {buffer_text(bytes(buffer), room)}"
-
-
-# ---- the cases: a name, a line for check, and its answer ----
-
-def slices(data):
-    """Bytes in check's words; of none both a pointer to nothing and NULL."""
-    return [data.hex()] if data else [".", "-"]
-
-
-def rooms(room):
-    return [str(room)] if room else ["0", "-"]
-
-
-def run_cases(name, log, chance):
-    """No room, one byte, the replies' own length, one less, plenty, and any."""
-    exact = len(replay.run(log, replay.LONGEST_REPLY * len(log))[3])
-    for room in sorted({0, 1, exact, max(exact - 1, 0), exact + 40, chance.below(exact + 2)}):
-        answer = run_answer(log, room)
-        yield from [(name, f"run {size} {text}", answer) for size in rooms(room) for text in slices(log)]
-
-
-def read_cases(log):
-    """Every place, some past the end, and the largest."""
-    for place in [*range(len(log) + 3), len(log) + 2**32, 2**63, LARGEST - len(log), LARGEST - 1, LARGEST]:
-        answer = read_answer(log, place)
-        yield from [("a read", f"read {place} {text}", answer) for text in slices(log)]
-
-
-UNITS = [0, 1, 5, 6, 127, 128, 255]
-VALUES = [0, 1, 2, 255, 256, 8191, 8192, 65535]
-SENT = [bytes([first, *range(1, length)]) for length in (1, 2, 32, 33, 40) for first in (1, 32)]
-SENT += [b"", b"\x00", b"\x21", b"\xff"]
-NOT_LOOKED_AT = [b"", b"\x01", bytes(40)]  # the bytes of a kind that has none
-
-
-def write_cases(kind, unit, value, sent):
-    """No room, one byte too few, the record's own length, and plenty."""
-    length = {1: 5, 2: 6, 3: 7, 4: 6, 5: 5 + len(sent)}.get(kind, 5)
-    for room in (0, length - 1, length, length + 40):
-        answer = write_answer(kind, unit, value, room, sent)
-        yield from [("a write", f"write {kind} {unit} {value} {size} {text}", answer)
-                    for size in rooms(room) for text in slices(sent)]
-
-
-def all_cases():
-    chance = Chance(20262305)
-    logs = [*replay.written_logs(), *replay.random_logs(5032, 40)]
-    logs += [(f"short, cut at {len(log)}", log) for log in replay.truncations(SHORT)]
-    logs += [(f"long traffic {turn}", replay.traffic(chance, 1000)) for turn in range(2)]
-    for name, log in logs:
-        yield from run_cases(name, log, chance)
-    stopped = [log for _, log in replay.stops(EXAMPLE[:5], SHORT[:12])]
-    for log in [b"", EXAMPLE, SHORT, *stopped, *(replay.sprinkled(chance, 100) for _ in range(6))]:
-        yield from read_cases(log)
-    for kind in [0, 1, 2, 3, 4, 5, 6, 255]:
-        for unit in UNITS:
-            for value in VALUES:
-                for sent in SENT if kind == 5 else NOT_LOOKED_AT:
-                    yield from write_cases(kind, unit, value, sent)
-
-
-# ---- building and comparing ----
 
 def build(library, folder, name, flags):
     program = folder / name
@@ -170,6 +33,8 @@ def build(library, folder, name, flags):
     return program
 
 
+# ---- the cases ----
+
 def wrong(expected, answer):
     """Both answers, cut where they are long, and both from the first difference on."""
     at = next((k for k, (a, b) in enumerate(zip(expected, answer)) if a != b), min(len(expected), len(answer)))
@@ -179,12 +44,12 @@ def wrong(expected, answer):
 
 def check_cases(build_name, program, cases):
     """All cases in one process; where it ends early, the case that it ended in is named."""
-    lines = "".join(line + "\n" for _, line, _ in cases)
+    lines = "".join(line + "\n" for line, _ in cases)
     done = subprocess.run([program], input=lines, capture_output=True, text=True, timeout=TIMEOUT)
     ended = f"status {done.returncode}\n{done.stderr}"
     answers = done.stdout.splitlines()
-    for number, (name, line, expected) in enumerate(cases):
-        title = f"{build_name} build, case {number + 1}, {name}: {line:.300}"
+    for number, (line, expected) in enumerate(cases):
+        title = f"{build_name} build, case {number + 1}: {line:.300}"
         if number == len(answers):
             fail(title, f"\nno answer, {ended}")
         if answers[number] != expected:
@@ -193,7 +58,11 @@ def check_cases(build_name, program, cases):
         fail(f"{build_name} build", f"{len(answers)} answers, {ended}")
 
 
-DAMAGED = SHORT + b"\x9c\x47"
+# ---- the example ----
+
+EXAMPLE = bytes.fromhex("9C 46 01 01 2C 9C 46 05 03 58 30 80 9C 46 05 02 59 01")
+DAMAGED = bytes.fromhex("9C 46 02 02 01 00 9C 46 01 01 2C 9C 46 05 04 58 30 80 02 9C 46 05 02 58 30 9C 46 05 02 59 04"
+                        "9C 46 03 03 05 FF 1F 9C 46 04 02 02 FF 9C 46 05 02 5B 02 9C 46 05 01 58 9C 47")
 DAMAGED_OUTPUT = """\
 0: 1 ticks
 6: power-on, address 2C
@@ -233,14 +102,16 @@ def main():
     if len(sys.argv) != 2:
         sys.exit(__doc__)
     library = pathlib.Path(sys.argv[1]).resolve()
-    cases = list(all_cases())
+    cases = host.expected("library")
+    runs, reads, writes = (sum(line.startswith(word) for line, _ in cases) for word in ("run ", "read ", "write "))
+    if not (runs and reads and writes):
+        fail("host/expected", f"{runs} runs, {reads} reads and {writes} writes")
     for name, flags in BUILDS.items():
         with tempfile.TemporaryDirectory() as path:
             folder = pathlib.Path(path)
             check_example(name, build(library, folder, "example", flags), folder)
             check_cases(name, build(library, folder, "check", flags), cases)
-    kinds = [sum(line.startswith(word) for _, line, _ in cases) for word in ("run ", "read ", "write ")]
-    print(f"library_test: {kinds[0]} runs, {kinds[1]} reads and {kinds[2]} writes as expected in {len(BUILDS)} builds; "
+    print(f"library_test: {runs} runs, {reads} reads and {writes} writes as expected in {len(BUILDS)} builds; "
           f"the example too")
 
 
