@@ -40,3 +40,8 @@ or-left false b e = refl
 pub or-right : (a b : Bool) → a || b ≡ false → b ≡ false
 or-right true b e = absurd (true≢false e)
 or-right false b e = e
+
+-- a disjunction holds where its second half does
+pub or-true : (a b : Bool) → b ≡ true → a || b ≡ true
+or-true true b e = refl
+or-true false b e = e
