@@ -5,11 +5,6 @@ mod transfers;
 use emc2305_chip::Chip;
 pub use steps::step;
 
-// The numbers of a step that the log does not give.
-pub const NO_POWER: u8 = 6;
-
-pub const ELSEWHERE: u8 = 7;
-
 // What a step gives: the number, how many reply bytes were laid, and the chip.
 pub struct Answer {
     pub number: u8,

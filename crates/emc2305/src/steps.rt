@@ -1,10 +1,10 @@
 // A step: any event, in any state of the chip.
 use crate::Answer;
-use crate::ELSEWHERE;
-use crate::NO_POWER;
 use crate::transfers;
 use emc2305_chip::Chip;
+use eventlog::ELSEWHERE;
 use eventlog::Event;
+use eventlog::NO_POWER;
 use eventlog::NO_ROOM;
 use eventlog::TAKEN;
 ghost use mathlib.Core.Path.{_≡_};
