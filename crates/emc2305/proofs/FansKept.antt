@@ -1,5 +1,5 @@
 -- The fans side by side: one changed and the others not, and always five.
-use mathlib.Core.Path.{_≡_, refl, sym, _∙_}
+use mathlib.Core.Path.{_≡_, refl, sym, ap, _∙_}
 use mathlib.Core.Bool.{true, false, not, true≢false}
 use mathlib.Core.List.{List, [], _∷_}
 use Prim.Native.Nat.{ℕ, _-_}
@@ -11,7 +11,7 @@ use Rattle.laws.specs.Buffer.{bytesAt}
 use Rattle.laws.proofs.Lists.{map-keeps}
 use Rattle.laws.proofs.Tests.{by-test, or-left, or-right}
 use Rattle.eventlog.specs.declared.Event.{Event}
-use Rattle.eventlog.specs.declared.Event.the-variants.{PowerOn, Ticks, Sample, Wish, Transfer}
+use Rattle.eventlog.specs.declared.Event.the-variants.{Sample, Wish, Transfer}
 use Rattle.emc2305_fan.specs.declared.Fan.{Fan}
 use Rattle.emc2305_chip.specs.declared.Bit.{Bit}
 use Rattle.emc2305_chip.specs.declared.Bit.the-variants.{Stall, Spin}
@@ -26,6 +26,7 @@ use Rattle.emc2305.specs.Transfers.{byteWritten, inTurn, sent, readOut}
 use Rattle.emc2305.specs.Step.{taken}
 use Rattle.emc2305.specs.Traffic.{byteStoresTo, anyStoresTo, sentStoresTo}
 use Rattle.emc2305.specs.Promises.{FiveFans, OtherFans, butStatus}
+use Rattle.emc2305.proofs.Effects.{by-effect}
 use Rattle.emc2305.proofs.ReadKeeps.{passed-keeps, read-keeps}
 use Rattle.emc2305.proofs.Numbers.{after-keeps}
 
@@ -54,12 +55,11 @@ sent-counts (pointer ∷ rest) c = turns-count (length rest) rest (withPointer p
 
 taken-counts : (log : List ℕ) (event : Event) (c : Chip) → count c ≡ 5 → count (taken log event c) ≡ count c
 unfolding taken atDefaults
-taken-counts log (PowerOn address) c h = sym h
-taken-counts log (Ticks n) c h = ticks-count n c
-taken-counts log (Sample fan n) c h = length-set (c .fans) (fan - 1) _
-taken-counts log (Wish fan drive) c h = length-set (c .fans) (fan - 1) _
-taken-counts log (Transfer true to place n) c h = read-keeps count _ (fedChip c) (λ d p. refl) (λ d. refl) (λ d which. length-map (d .fans) _)
-taken-counts log (Transfer false to place n) c h = sent-counts _ (fedChip c)
+taken-counts log event c h =
+    by-effect (λ (e : Event). count (taken log e c) ≡ count c) (λ address. sym h) (λ n. ticks-count n c)
+    (λ fan n. length-set (c .fans) (fan - 1) _) (λ fan drive. length-set (c .fans) (fan - 1) _)
+    (λ to place n. read-keeps count _ (fedChip c) (λ d p. refl) (λ d. refl) (λ d which. length-map (d .fans) _))
+    (λ to place n. sent-counts _ (fedChip c)) (λ e idle. ap count (idle .leaves log c)) event
 
 pub five-fans : FiveFans
 five-fans c log event room h = after-keeps count c log event room (taken-counts log event c h) ∙ h

@@ -5,6 +5,8 @@ pub mod Answers
 pub mod ReadKeeps
 pub mod Pointers
 pub mod Numbers
+pub mod Effects
+pub mod SameSteps
 pub mod FansKept
 pub mod LockKept
 pub mod Promises

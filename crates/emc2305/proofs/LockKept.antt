@@ -12,7 +12,7 @@ use Rattle.laws.proofs.Lists.{map-keeps, set-keeps}
 use Rattle.laws.proofs.Repeat.{repeated-keeps}
 use Rattle.laws.proofs.Tests.{by-test, and-left, and-right}
 use Rattle.eventlog.specs.declared.Event.{Event}
-use Rattle.eventlog.specs.declared.Event.the-variants.{PowerOn, Ticks, Sample, Wish, Transfer}
+use Rattle.eventlog.specs.Kinds.{isPowerOn}
 use Rattle.emc2305_fan.specs.declared.Fan.{Fan}
 use Rattle.emc2305_fan.specs.Registers.{bit, byteAt, locked, undefined, shown, stores}
 use Rattle.emc2305_fan.specs.Drive.{wished}
@@ -34,8 +34,8 @@ use Rattle.emc2305_chip.specs.Ticks.{chipTicked}
 use Rattle.emc2305_chip.proofs.Moves.{stored-keeps, written-keeps, tickMove, tick-fans, tick-rest}
 use Rattle.emc2305.specs.Transfers.{byteWritten, inTurn, sent, readOut}
 use Rattle.emc2305.specs.Step.{taken}
-use Rattle.emc2305.specs.Traffic.{isPowerOn}
 use Rattle.emc2305.specs.Promises.{Locked, after}
+use Rattle.emc2305.proofs.Effects.{by-effect}
 use Rattle.emc2305.proofs.ReadKeeps.{passed-keeps, read-keeps}
 use Rattle.emc2305.proofs.Numbers.{after-keeps}
 
@@ -155,12 +155,14 @@ sent-same (pointer ∷ rest) c k register g =
 
 taken-same : (log : List ℕ) (event : Event) (c : Chip) → isLocked c ≡ true → isPowerOn event ≡ false → Same c (taken log event c)
 unfolding taken
-taken-same log (PowerOn address) c k p register g = absurd (true≢false p)
-taken-same log (Ticks n) c k p register g = repeated-keeps (λ (d : Chip). shownOf d register) n chipTicked c (λ d. tick-same d register g)
-taken-same log (Sample fan n) c k p register g = same c _ refl refl (λ i o l. one-still o l (fan - 1) _ (c .fans) i (sample-still o l n _ _)) register g
-taken-same log (Wish fan drive) c k p register g = same c _ refl refl (λ i o l. one-still o l (fan - 1) _ (c .fans) i (wish-still o l drive _)) register g
-taken-same log (Transfer true to place n) c k p register g = read-same _ (fedChip c) register g ∙ aside c _ refl refl refl register g
-taken-same log (Transfer false to place n) c k p register g = sent-same _ (fedChip c) k register g ∙ aside c _ refl refl refl register g
+taken-same log event c k =
+    by-effect (λ (e : Event). isPowerOn e ≡ false → Same c (taken log e c)) (λ address p register g. absurd (true≢false p))
+    (λ n p register g. repeated-keeps (λ (d : Chip). shownOf d register) n chipTicked c (λ d. tick-same d register g))
+    (λ fan n p. same c _ refl refl (λ i o l. one-still o l (fan - 1) _ (c .fans) i (sample-still o l n _ _)))
+    (λ fan drive p. same c _ refl refl (λ i o l. one-still o l (fan - 1) _ (c .fans) i (wish-still o l drive _)))
+    (λ to place n p register g. read-same _ (fedChip c) register g ∙ aside c _ refl refl refl register g)
+    (λ to place n p register g. sent-same _ (fedChip c) k register g ∙ aside c _ refl refl refl register g)
+    (λ e idle p register g. ap (λ (d : Chip). shownOf d register) (idle .leaves log c)) event
 
 pub locked-kept : Locked
 unfolding shownAt

@@ -1,6 +1,6 @@
 -- A step's number, and what a step does where it is refused and where it is taken.
 use mathlib.Core.Path.{_≡_, refl, sym, ap, subst, _∙_}
-use mathlib.Core.Bool.{Bool, true, false, cond}
+use mathlib.Core.Bool.{Bool, true, false, cond, true≢false}
 use mathlib.Core.List.{List}
 use Prim.Native.Nat.{ℕ, _≤_, _<_}
 use native.Mathlib.Omega.{arith}
@@ -10,11 +10,14 @@ use borrow.Author.Tests.{eqb-true, eqb-false, ltb-true, ltb-false, lt-ltb, le-lt
 use Rattle.laws.proofs.Buffer.{length-laid}
 use Rattle.laws.proofs.Tests.{by-test}
 use Rattle.eventlog.specs.declared.Event.{Event}
-use Rattle.eventlog.specs.Range.{inRange, rangeNumber}
+use Rattle.eventlog.specs.Kinds.{replyLength}
+use Rattle.eventlog.specs.Numbers.{fieldFault}
+use Rattle.eventlog.specs.Range.{rangeNumber}
+use Rattle.eventlog.proofs.Numbered.{range-fault}
 use Rattle.emc2305_chip.specs.Registers.{fedChip}
 use Rattle.emc2305_chip.specs.declared.Chip.{Chip}
 use Rattle.emc2305.specs.declared.Answer.{Answer}
-use Rattle.emc2305.specs.Step.{beforePower, elsewhere, replyLength, stepNumber, taken, replyTo, stepped, replyAfter}
+use Rattle.emc2305.specs.Step.{beforePower, elsewhere, stepNumber, taken, replyTo, stepped, replyAfter}
 use Rattle.emc2305.specs.Promises.{StepNumbers, Numbered, Refused, TakenStep, after}
 use Rattle.emc2305.proofs.Turns.{reply-length}
 
@@ -22,7 +25,7 @@ module _ (powered : Bool) (address : ℕ) (log : List ℕ) (event : Event) (room
   -- what each number tells
   abbrev Told : ℕ → Type 0
   Told number =
-      cond (eqb number 5) (rangeNumber log event ≡ 5)
+      cond (fieldFault number) (rangeNumber log event ≡ number)
       (cond (eqb number 6) ((rangeNumber log event ≡ 0) × (beforePower powered event ≡ true))
       (cond (eqb number 7) ((rangeNumber log event ≡ 0) × (beforePower powered event ≡ false) × (elsewhere address event ≡ true))
       (cond (eqb number 8)
@@ -30,24 +33,25 @@ module _ (powered : Bool) (address : ℕ) (log : List ℕ) (event : Event) (room
       ((rangeNumber log event ≡ 0) × (beforePower powered event ≡ false) × (elsewhere address event ≡ false) × (replyLength log event ≤ room)))))
 
   told : Told (stepNumber powered address log event room)
-  unfolding stepNumber rangeNumber
+  unfolding stepNumber
   told =
-      by-test (inRange log event)
+      by-test (eqb (rangeNumber log event) 0)
       (λ r.
-      by-test (beforePower powered event) (λ b. rw (r, b) (refl, refl))
+      let z = eqb-true (rangeNumber log event) 0 r in
+      by-test (beforePower powered event) (λ b. rw (z, b) (refl, refl))
       (λ b.
-      by-test (elsewhere address event) (λ e. rw (r, b, e) (refl, refl, refl))
+      by-test (elsewhere address event) (λ e. rw (z, b, e) (refl, refl, refl))
       (λ e.
-      by-test (ltb room (replyLength log event)) (λ s. rw (r, b, e, s) (refl, refl, refl, ltb-true room (replyLength log event) s))
-      (λ s. rw (r, b, e, s) (refl, refl, refl, ltb-false room (replyLength log event) s)))))
-      (λ r. rw r)
+      by-test (ltb room (replyLength log event)) (λ s. rw (z, b, e, s) (refl, refl, refl, ltb-true room (replyLength log event) s))
+      (λ s. rw (z, b, e, s) (refl, refl, refl, ltb-false room (replyLength log event) s)))))
+      (λ r. rw (r, range-fault log event r))
 
 pub step-numbers : StepNumbers
 unfolding stepNumber
 step-numbers powered address log event room =
     let t = told powered address log event room in
     let T = Told powered address log event room in (
-      (λ e. subst T e t, λ h. rw h),
+      λ number f. (λ e. rw f at (subst T e t), λ h. rw (h, ne-eqb number 0 (λ z. true≢false (sym f ∙ ap fieldFault z)))),
       (λ e. subst T e t, λ h. rw (h .0, h .1)),
       (λ e. subst T e t, λ h. rw (h .0, h .1, h .2)),
       (λ e. subst T e t, λ h. rw (h .0, h .1, h .2, lt-ltb room (replyLength log event) (h .3))),

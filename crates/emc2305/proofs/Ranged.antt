@@ -1,44 +1,19 @@
 -- What an event that is in range tells a step, and the number of a step, way by way.
-use mathlib.Core.Path.{_≡_, refl, sym, subst}
-use mathlib.Core.Bool.{Bool, true, false, cond, not, _&&_}
-use mathlib.Core.List.{List, [], _∷_}
+use mathlib.Core.Path.{_≡_, sym, subst}
+use mathlib.Core.Bool.{Bool, true, false}
+use mathlib.Core.List.{List}
 use Prim.Native.Nat.{ℕ, _+_, _≤_, _<_}
 use native.Mathlib.Omega.{arith}
-use types.Run.{OneOf, miss}
-use denote.Enum.Declared.{tagOf}
-use lib.Dec.{leb, eqb}
-use lib.ListN.{length, getD}
-use borrow.Author.Tests.{leb-true, eqb-true, ne-eqb, lt-ltb, le-ltb}
+use lib.Dec.{leb}
+use lib.ListN.{length}
+use borrow.Author.Tests.{leb-true, ne-eqb, lt-ltb, le-ltb}
 use Rattle.laws.proofs.Tests.{and-left, and-right}
 use Rattle.eventlog.specs.declared.Event.{Event}
-use Rattle.eventlog.specs.declared.Event.the-variants.{PowerOn, Ticks, Sample, Wish, Transfer}
-use Rattle.eventlog.specs.Range.{fanInRange, addressInRange, bytesInRange, readInRange, inRange, rangeNumber}
-use Rattle.eventlog.proofs.Event.{the-type}
-use Rattle.eventlog.proofs.Ranges.{in-range, place-within}
-use Rattle.emc2305.specs.Step.{beforePower, elsewhere, replyLength, stepNumber}
-
--- what needs power: all but a power-on
-abbrev poweredTags : List ℕ
-poweredTags = 1 ∷ 2 ∷ 3 ∷ 4 ∷ []
-
-pub needs-power : (powered : Bool) (event : Event) → OneOf poweredTags (tagOf the-type event) → not powered ≡ beforePower powered event
-needs-power powered (PowerOn address) h = absurd (miss poweredTags 0 tt h)
-needs-power powered (Ticks count) h = refl
-needs-power powered (Sample fan count) h = refl
-needs-power powered (Wish fan drive) h = refl
-needs-power powered (Transfer reads to place n) h = refl
-
--- what is no transfer: it goes to no other address, and has no reply
-abbrev noTransferTags : List ℕ
-noTransferTags = 0 ∷ 1 ∷ 2 ∷ 3 ∷ []
-
-pub no-transfer : (address : ℕ) (log : List ℕ) (event : Event) → OneOf noTransferTags (tagOf the-type event)
-    → (false ≡ elsewhere address event) × (0 ≡ replyLength log event)
-no-transfer address log (PowerOn to) h = (refl, refl)
-no-transfer address log (Ticks count) h = (refl, refl)
-no-transfer address log (Sample fan count) h = (refl, refl)
-no-transfer address log (Wish fan drive) h = (refl, refl)
-no-transfer address log (Transfer reads to place n) h = absurd (miss noTransferTags 4 tt h)
+use Rattle.eventlog.specs.declared.Event.the-variants.{Sample, Wish, Transfer}
+use Rattle.eventlog.specs.Kinds.{replyLength}
+use Rattle.eventlog.specs.Range.{fanInRange, inRange, rangeNumber}
+use Rattle.eventlog.proofs.Ranges.{in-range, place-within, one-byte}
+use Rattle.emc2305.specs.Step.{beforePower, elsewhere, stepNumber}
 
 module _ (log : List ℕ) (event : Event) (good : rangeNumber log event ≡ 0) where
   in-range-as : (other : Event) → event ≡ other → inRange log other ≡ true
@@ -60,11 +35,7 @@ module _ (log : List ℕ) (event : Event) (good : rangeNumber log event ≡ 0) w
 
   pub clocked-within : (reads : Bool) (to place n : ℕ) → event ≡ Transfer reads to place n → reads ≡ true → place < length log
   clocked-within reads to place n e r =
-      let rest : bytesInRange log place n && cond reads (readInRange log place n) true ≡ true =
-      and-right (addressInRange to) (bytesInRange log place n && cond reads (readInRange log place n) true) (in-range-as (Transfer reads to place n) e) in
-      let read : cond reads (readInRange log place n) true ≡ true = and-right (bytesInRange log place n) (cond reads (readInRange log place n) true) rest in
-      let one : n ≡ 1 = eqb-true n 1 (and-left (eqb n 1) (leb 1 (getD log place 0) && leb (getD log place 0) 32) (rw r at read)) in
-      omega (arith, sent-within reads to place n e)
+      omega (arith, sent-within reads to place n e, one-byte log reads to place n (in-range-as (Transfer reads to place n) e) r)
 
 -- the number, way by way
 module _ (powered : Bool) (address : ℕ) (log : List ℕ) (event : Event) (room : ℕ) where

@@ -10,6 +10,9 @@ use Rattle.laws.specs.Repeat.{repeated}
 use Rattle.laws.specs.Buffer.{bytesAt, laidOver}
 use Rattle.eventlog.specs.declared.Event.{Event}
 use Rattle.eventlog.specs.declared.Event.the-variants.{PowerOn, Ticks, Sample, Wish, Transfer}
+use Rattle.eventlog.specs.Kinds.{isPowerOn, replyLength}
+use Rattle.eventlog.specs.Layout.{said}
+use Rattle.eventlog.specs.Numbers.{fieldFault}
 use Rattle.eventlog.specs.Range.{rangeNumber}
 use Rattle.emc2305_fan.specs.declared.Fan.{Fan}
 use Rattle.emc2305_fan.specs.State.{withStalled, withFailed}
@@ -20,8 +23,8 @@ use Rattle.emc2305_chip.specs.Map.{registerOf}
 use Rattle.emc2305_chip.specs.Fans.{fanAt}
 use Rattle.emc2305_chip.specs.Registers.{shownAt, isLocked, guarded, fedChip}
 use Rattle.emc2305.specs.Transfers.{sent, byteRead, replyOf, readOut}
-use Rattle.emc2305.specs.Step.{beforePower, elsewhere, replyLength, stepNumber, taken, replyTo, stepped, replyAfter}
-use Rattle.emc2305.specs.Traffic.{storesTo, isPowerOn}
+use Rattle.emc2305.specs.Step.{beforePower, elsewhere, stepNumber, taken, replyTo, stepped, replyAfter}
+use Rattle.emc2305.specs.Traffic.{storesTo}
 
 -- the chip after a step, with a reply buffer of so many bytes
 abbrev pub after : List ℕ → Event → ℕ → Chip → Chip
@@ -31,7 +34,7 @@ after log event room c = stepped c log event room .chip
 abbrev pub StepNumbers : Type 0
 StepNumbers =
     (powered : Bool) (address : ℕ) (log : List ℕ) (event : Event) (room : ℕ)
-    → (stepNumber powered address log event room ≡ 5 ↔ rangeNumber log event ≡ 5)
+    → ((number : ℕ) → fieldFault number ≡ true → stepNumber powered address log event room ≡ number ↔ rangeNumber log event ≡ number)
     × (stepNumber powered address log event room ≡ 6 ↔ (rangeNumber log event ≡ 0) × (beforePower powered event ≡ true))
     × (stepNumber powered address log event room ≡ 7
     ↔ (rangeNumber log event ≡ 0) × (beforePower powered event ≡ false) × (elsewhere address event ≡ true))
@@ -60,6 +63,12 @@ TakenStep =
     × (stepped c log event (length reply) .laid ≡ length (replyTo log event c))
     × (replyAfter c log event reply ≡ laidOver (replyTo log event c) reply)
     × (length (replyAfter c log event reply) ≡ length reply)
+
+-- a step goes by what an event says alone: two that say the same, each in range in its own log, have the same answer and the same reply
+abbrev pub SameEvents : Type 0
+SameEvents =
+    (c : Chip) (a b : List ℕ) (e f : Event) (room : ℕ) → rangeNumber a e ≡ 0 → rangeNumber b f ≡ 0 → said a e ≡ said b f
+    → (stepped c a e room ≡ stepped c b f room) × (replyTo a e c ≡ replyTo b f c)
 
 -- every step leaves a chip of five fans
 abbrev pub FiveFans : Type 0

@@ -8,6 +8,7 @@ use Rattle.laws.specs.Buffer.{bytesAt, laidOver}
 use Rattle.laws.specs.Repeat.{repeated}
 use Rattle.eventlog.specs.declared.Event.{Event}
 use Rattle.eventlog.specs.declared.Event.the-variants.{PowerOn, Ticks, Sample, Wish, Transfer}
+use Rattle.eventlog.specs.Kinds.{onPowerOn, onTransfer, replyLength}
 use Rattle.eventlog.specs.Range.{rangeNumber}
 use Rattle.emc2305_fan.specs.Drive.{wished}
 use Rattle.emc2305_fan.specs.Tach.{sampled}
@@ -20,27 +21,11 @@ use Rattle.emc2305.specs.Transfers.{sent, replyOf, readOut}
 
 -- event other than power-on before any power-on
 abbrev pub beforePower : Bool → Event → Bool
-beforePower powered (PowerOn address) = false
-beforePower powered (Ticks count) = not powered
-beforePower powered (Sample fan count) = not powered
-beforePower powered (Wish fan drive) = not powered
-beforePower powered (Transfer reads to place n) = not powered
+beforePower powered = onPowerOn (not powered) (λ address. false)
 
 -- transfer to another address
 abbrev pub elsewhere : ℕ → Event → Bool
-elsewhere address (PowerOn to) = false
-elsewhere address (Ticks count) = false
-elsewhere address (Sample fan count) = false
-elsewhere address (Wish fan drive) = false
-elsewhere address (Transfer reads to place n) = not (eqb to address)
-
--- how many bytes the reply has: of a read, as many as the host clocks
-abbrev pub replyLength : List ℕ → Event → ℕ
-replyLength log (PowerOn address) = 0
-replyLength log (Ticks count) = 0
-replyLength log (Sample fan count) = 0
-replyLength log (Wish fan drive) = 0
-replyLength log (Transfer reads to place n) = cond reads (getD log place 0) 0
+elsewhere address = onTransfer false (λ reads to place n. not (eqb to address))
 
 -- a step's number: 5, then 6, 7, 8
 unfoldable pub stepNumber : Bool → ℕ → List ℕ → Event → ℕ → ℕ

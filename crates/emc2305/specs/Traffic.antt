@@ -1,4 +1,4 @@
--- What a theorem says of an event: whether it stores to a fan's registers, which kind it is, how many ticks it holds.
+-- What a theorem says of an event: whether it stores to a fan's registers, and whether it is a sample, or a wish for a fan.
 use mathlib.Core.Bool.{Bool, true, false, cond, _&&_, _||_}
 use mathlib.Core.List.{List, [], _∷_}
 use Prim.Native.Nat.{ℕ, _+_}
@@ -6,7 +6,7 @@ use lib.Dec.{eqb}
 use lib.ListN.{length}
 use Rattle.laws.specs.Buffer.{bytesAt}
 use Rattle.eventlog.specs.declared.Event.{Event}
-use Rattle.eventlog.specs.declared.Event.the-variants.{PowerOn, Ticks, Sample, Wish, Transfer}
+use Rattle.eventlog.specs.Kinds.{onSample, onWish, onTransfer}
 use Rattle.emc2305_chip.specs.declared.Chip.{Chip}
 use Rattle.emc2305_chip.specs.State.{withPointer}
 use Rattle.emc2305_chip.specs.Map.{registerOf, isOfFan}
@@ -29,40 +29,13 @@ sentStoresTo i (pointer ∷ rest) c = anyStoresTo i (length rest) rest (withPoin
 
 -- an event, where it is taken, holds a stored write to a register of fan i + 1
 abbrev pub storesTo : ℕ → List ℕ → Event → Chip → Bool
-storesTo i log (PowerOn address) c = false
-storesTo i log (Ticks count) c = false
-storesTo i log (Sample fan count) c = false
-storesTo i log (Wish fan drive) c = false
-storesTo i log (Transfer reads to place n) c = cond reads false (sentStoresTo i (bytesAt log place n) (fedChip c))
-
--- the event is a power-on
-abbrev pub isPowerOn : Event → Bool
-isPowerOn (PowerOn address) = true
-isPowerOn (Ticks count) = false
-isPowerOn (Sample fan count) = false
-isPowerOn (Wish fan drive) = false
-isPowerOn (Transfer reads to place n) = false
+storesTo i log event c =
+    onTransfer false (λ reads to place n. cond reads false (sentStoresTo i (bytesAt log place n) (fedChip c))) event
 
 -- it is a sample
 abbrev pub isSample : Event → Bool
-isSample (PowerOn address) = false
-isSample (Ticks count) = false
-isSample (Sample fan count) = true
-isSample (Wish fan drive) = false
-isSample (Transfer reads to place n) = false
+isSample = onSample false (λ fan count. true)
 
 -- it is a wish for fan i + 1
 abbrev pub isWishFor : ℕ → Event → Bool
-isWishFor i (PowerOn address) = false
-isWishFor i (Ticks count) = false
-isWishFor i (Sample fan count) = false
-isWishFor i (Wish fan drive) = eqb fan (i + 1)
-isWishFor i (Transfer reads to place n) = false
-
--- the ticks that it holds
-abbrev pub ticksOf : Event → ℕ
-ticksOf (PowerOn address) = 0
-ticksOf (Ticks count) = count
-ticksOf (Sample fan count) = 0
-ticksOf (Wish fan drive) = 0
-ticksOf (Transfer reads to place n) = 0
+isWishFor i = onWish false (λ fan drive. eqb fan (i + 1))

@@ -11,8 +11,9 @@ ghost use mathlib.Core.Path.{_≡_};
 ghost use Prim.Native.Nat.{_≤_};
 ghost use lib.ListN.{length};
 ghost use Rattle.laws.specs.Buffer.{laidOver};
+ghost use Rattle.eventlog.specs.Kinds.{replyLength};
 ghost use Rattle.eventlog.specs.Range.{rangeNumber};
-ghost use Rattle.emc2305.specs.Step.{beforePower, elsewhere, replyLength, stepNumber, taken, replyTo, stepped, replyAfter};
+ghost use Rattle.emc2305.specs.Step.{beforePower, elsewhere, stepNumber, taken, replyTo, stepped, replyAfter};
 
 // One event. The reply of a read is laid at the front of the buffer. A refusal leaves chip and buffer as they were.
 pub fn step(chip: Chip, log: &[u8], event: Event, reply: &mut [u8]) -> Answer

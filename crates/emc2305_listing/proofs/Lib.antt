@@ -1,5 +1,4 @@
 pub mod Lengths
-pub mod SameSteps
 pub mod Walks
 pub mod Moves
 pub mod OneCall

@@ -1,7 +1,9 @@
 -- `emc2305::steps::reply_length` meets its contract.
+use mathlib.Core.Path.{sym}
 use native.Mathlib.Omega.{arith}
 use borrow.Author.Needs.{needs}
-use Rattle.emc2305.proofs.Ranged.{no-transfer, clocked-within}
+use Rattle.eventlog.proofs.ByKind.{no-transfer, not-transfer}
+use Rattle.emc2305.proofs.Ranged.{clocked-within}
 use Rattle.emc2305.proofs.steps.reply_length.Statement.{statement}
 use Rattle.emc2305.proofs.steps.reply_length.Tie as tie
 
@@ -23,7 +25,7 @@ returns-2 : tie.Need-returns-2
 returns-2 c = rw (c .before .before .event .given .1, c .if1 .left)
 
 returns-3 : tie.Need-returns-3
-returns-3 c = no-transfer 0 (c .before .args .log .now) (c .before .args .event) (c .match .keys2) .1
+returns-3 c = sym (no-transfer _ _ (c .before .args .event) (not-transfer (c .before .args .event) (c .match .keys2)))
 
 pub reply-length-spec : {M : Type 1} → statement M
 reply-length-spec =
