@@ -12,6 +12,7 @@ use borrow.Author.Tests.{leb-true, leb-false, le-ltb, eq-eqb}
 use Rattle.laws.specs.Repeat.{repeated}
 use Rattle.laws.proofs.Divide.{one-more, one-round}
 use Rattle.laws.proofs.Tests.{by-test, and-left, and-right}
+use Rattle.eventlog.specs.Kinds.{ticksOf}
 use Rattle.eventlog.specs.Range.{rangeNumber}
 use Rattle.emc2305_fan.specs.Ramp.{moved}
 use Rattle.emc2305_fan.specs.Drive.{underRamp, period}
@@ -21,7 +22,7 @@ use Rattle.emc2305_watchdog.specs.declared.Watch.the-variants.{Off}
 use Rattle.emc2305_chip.specs.declared.Chip.{Chip}
 use Rattle.emc2305_chip.specs.Ticks.{chipTicked}
 use Rattle.emc2305.specs.Step.{stepNumber, stepped}
-use Rattle.emc2305.specs.Traffic.{isSample, isWishFor, ticksOf}
+use Rattle.emc2305.specs.Traffic.{isSample, isWishFor}
 use Rattle.emc2305_promises.specs.Ramp.{Handed, next, isTaken, afterAll, throughout, takenTicks, fanOf, undisturbed, Ramping}
 use Rattle.emc2305_promises.specs.Corollaries.{RefusedMeets, TicksTaken, UpdateTicks, updatesIn, updatesMade, Arrival, ticksAt, AtEachPoint, NeverPasses}
 use Rattle.emc2305_promises.proofs.Events.{by-taken, first-rest}

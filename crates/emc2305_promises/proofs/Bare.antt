@@ -8,7 +8,6 @@ use Rattle.laws.specs.Buffer.{bytesAt}
 use Rattle.laws.specs.Repeat.{repeated}
 use Rattle.laws.proofs.Tests.{by-test}
 use Rattle.eventlog.specs.declared.Event.{Event}
-use Rattle.eventlog.specs.declared.Event.the-variants.{PowerOn, Ticks, Sample, Wish, Transfer}
 use Rattle.emc2305_fan.specs.Registers.{bit}
 use Rattle.emc2305_watchdog.specs.declared.Watch.{Watch}
 use Rattle.emc2305_watchdog.specs.declared.Watch.the-variants.{Off, PowerUp, Continuous}
@@ -24,6 +23,7 @@ use Rattle.emc2305_chip.proofs.Maps.{by-register}
 use Rattle.emc2305_chip.proofs.Moves.{stored-keeps, written-keeps}
 use Rattle.emc2305.specs.Transfers.{passed, byteWritten, inTurn, sent, byteRead}
 use Rattle.emc2305.specs.Step.{taken}
+use Rattle.emc2305.proofs.Effects.{by-effect}
 use Rattle.emc2305.proofs.ReadKeeps.{passed-keeps}
 
 abbrev pub bare : Chip → Chip
@@ -124,13 +124,11 @@ sent-bare (pointer ∷ rest) c up = turns-bare (length rest) rest (withPointer p
 -- an event that is taken, with the watch off
 pub taken-bare : (log : List ℕ) (event : Event) (c : Chip) → c .watch ≡ Off → bare (taken log event c) ≡ bare (taken log event (bare c))
 unfolding taken
-taken-bare log (PowerOn address) c off = refl
-taken-bare log (Ticks n) c off = repeated-bare n chipTicked c tick-bare ∙ sym (repeated-bare n chipTicked (bare c) tick-bare)
-taken-bare log (Sample fan n) c off = refl
-taken-bare log (Wish fan drive) c off = refl
-taken-bare log (Transfer true to place n) c off =
-    let k = getD log place 0 in
-    reads-bare k k (fedChip c) ∙ sym (reads-bare k k (fedChip (bare c)))
-taken-bare log (Transfer false to place n) c off =
+taken-bare log event c off =
+    by-effect (λ (e : Event). bare (taken log e c) ≡ bare (taken log e (bare c))) (λ address. refl)
+    (λ n. repeated-bare n chipTicked c tick-bare ∙ sym (repeated-bare n chipTicked (bare c) tick-bare)) (λ fan n. refl) (λ fan drive. refl)
+    (λ to place n. let k = getD log place 0 in reads-bare k k (fedChip c) ∙ sym (reads-bare k k (fedChip (bare c))))
+    (λ to place n.
     let bytes = bytesAt log place n in
-    sent-bare bytes (fedChip c) (rw off) ∙ sym (sent-bare bytes (fedChip (bare c)) (rw off))
+    sent-bare bytes (fedChip c) (rw off) ∙ sym (sent-bare bytes (fedChip (bare c)) (rw off)))
+    (λ e idle. rw (idle .leaves log c, idle .leaves log (bare c))) event

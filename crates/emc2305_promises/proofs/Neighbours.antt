@@ -11,7 +11,6 @@ use Rattle.laws.specs.Buffer.{bytesAt}
 use Rattle.laws.specs.Repeat.{repeated}
 use Rattle.laws.proofs.Tests.{by-test, and-left}
 use Rattle.eventlog.specs.declared.Event.{Event}
-use Rattle.eventlog.specs.declared.Event.the-variants.{PowerOn, Ticks, Sample, Wish, Transfer}
 use Rattle.emc2305_watchdog.specs.declared.Watch.the-variants.{Off}
 use Rattle.emc2305_watchdog.specs.Watch.{isOff, inPowerUp}
 use Rattle.emc2305_chip.specs.declared.Chip.{Chip}
@@ -22,13 +21,14 @@ use Rattle.emc2305_chip.specs.Registers.{storesIn, storesAt, fedChip}
 use Rattle.emc2305_chip.proofs.Maps.{by-register}
 use Rattle.emc2305.specs.Transfers.{byteWritten, byteRead}
 use Rattle.emc2305.specs.Step.{stepNumber, taken}
+use Rattle.emc2305.proofs.Effects.{by-effect}
 use Rattle.emc2305.proofs.Numbers.{numbered}
 use Rattle.emc2305.proofs.FansKept.{write-counts, five-fans}
 use Rattle.emc2305_promises.specs.Ramp.{Handed, next, isTaken, throughout, fanOf, watchOff}
 use Rattle.emc2305_promises.specs.Alone.{store, ofByte, ofBytes, ofWrite, ofReads, ofEvent, ownTraffic, OthersAside}
 use Rattle.emc2305_promises.proofs.Events.{is-off, by-taken, first-rest}
 use Rattle.emc2305_promises.proofs.OwnBytes.{byte-own}
-use Rattle.emc2305_promises.proofs.OwnTraffic.{event-own, no-fan-waits}
+use Rattle.emc2305_promises.proofs.OwnTraffic.{idle-own, event-own, no-fan-waits}
 use Rattle.emc2305_promises.proofs.Bare.{bare, byte-bare, byte-up, reads-bare, taken-bare}
 
 module _ (i : ℕ) where
@@ -79,15 +79,13 @@ module _ (i : ℕ) where
       rw (same-reads n k c, pointer)
 
   same-event : (log : List ℕ) (event : Event) (c d : Chip) → c .watch ≡ Off → Alike c d → ofEvent i log event c ≡ ofEvent i log event d
-  same-event log (PowerOn address) c d off a = refl
-  same-event log (Ticks n) c d off a = refl
-  same-event log (Sample fan n) c d off a = refl
-  same-event log (Wish fan drive) c d off a = refl
-  same-event log (Transfer true to place n) c d off a =
+  same-event log event c d off a =
+      by-effect (λ (e : Event). ofEvent i log e c ≡ ofEvent i log e d) (λ address. refl) (λ n. refl) (λ fan n. refl) (λ fan drive. refl)
+      (λ to place n.
       let k = getD log place 0 in
-      same-reads k k (fedChip c) ∙ ap (λ (b : Chip). ofReads k k (fedChip b)) (a .0) ∙ sym (same-reads k k (fedChip d))
-  same-event log (Transfer false to place n) c d off a =
-      same-write (bytesAt log place n) (fedChip c) (fedChip d) (rw off) (ap fedChip (a .0), a .1, a .2, a .3)
+      same-reads k k (fedChip c) ∙ ap (λ (b : Chip). ofReads k k (fedChip b)) (a .0) ∙ sym (same-reads k k (fedChip d)))
+      (λ to place n. same-write (bytesAt log place n) (fedChip c) (fedChip d) (rw off) (ap fedChip (a .0), a .1, a .2, a .3))
+      (λ e idle. idle-own i log e c idle ∙ sym (idle-own i log e d idle)) event
 
 -- the rest of the chip after an event, with the watch off
 next-bare : (h : Handed) (c : Chip) → c .watch ≡ Off → bare (next h c) ≡ cond (isTaken h c) (bare (taken (h .log) (h .event) (bare c))) (bare c)

@@ -1,7 +1,7 @@
 -- A fan after events is what its own traffic makes of it (specs/Alone.antt).
 use mathlib.Core.Path.{_≡_, refl, sym, ap, _∙_}
 use mathlib.Core.Bool.{true, false, cond, false≢true}
-use mathlib.Core.List.{List, [], _∷_}
+use mathlib.Core.List.{List, [], _∷_, append-nil}
 use Prim.Native.Nat.{ℕ, zero, suc, _-_, _<_}
 use native.Mathlib.Omega.{arith}
 use lib.Dec.{leb}
@@ -11,7 +11,7 @@ use Rattle.laws.specs.Buffer.{bytesAt}
 use Rattle.laws.specs.Repeat.{repeated}
 use Rattle.laws.proofs.Tests.{and-left, and-right}
 use Rattle.eventlog.specs.declared.Event.{Event}
-use Rattle.eventlog.specs.declared.Event.the-variants.{PowerOn, Ticks, Sample, Wish, Transfer}
+use Rattle.eventlog.specs.declared.Event.the-variants.{Sample, Wish}
 use Rattle.eventlog.specs.Range.{fanInRange, inRange}
 use Rattle.emc2305_fan.specs.declared.Fan.{Fan}
 use Rattle.emc2305_fan.specs.Tick.{ticked}
@@ -21,9 +21,10 @@ use Rattle.emc2305_chip.specs.declared.Chip.{Chip}
 use Rattle.emc2305_chip.specs.Registers.{atDefaults, fedChip}
 use Rattle.emc2305_chip.proofs.ChipTicks.{fan-ticks}
 use Rattle.emc2305.specs.Step.{taken}
+use Rattle.emc2305.proofs.Effects.{Idle, by-effect}
 use Rattle.emc2305.proofs.FansKept.{five-fans}
 use Rattle.emc2305_promises.specs.Ramp.{Handed, next, isTaken, afterAll, throughout, fanOf, watchOff}
-use Rattle.emc2305_promises.specs.Alone.{tick, sample, wish, played, ofEvent, ownTraffic, Alone, NoFanWaits}
+use Rattle.emc2305_promises.specs.Alone.{tick, sample, wish, played, ofTicks, ofSample, ofWish, ofTransfer, ofEvent, ownTraffic, Alone, NoFanWaits}
 use Rattle.emc2305_promises.proofs.Events.{is-off, same-fan, by-taken, first-rest}
 use Rattle.emc2305_promises.proofs.OwnBytes.{both, one-own, sent-own, reads-own}
 
@@ -38,21 +39,35 @@ unfolding repeated played
 played-ticks zero f = refl
 played-ticks (suc n) f = sym (first-last n f) ∙ played-ticks n (ticked f)
 
+-- nothing of an event that leaves every chip
+pub idle-own : (i : ℕ) (log : List ℕ) (event : Event) (c : Chip) → Idle event → ofEvent i log event c ≡ []
+idle-own i log event c idle =
+    let t : ofTicks event ≡ [] = idle .no-ticks [] _ in
+    let s : ofSample i event ≡ [] = idle .no-sample [] _ in
+    let w : ofWish i event ≡ [] = idle .no-wish [] _ in
+    let x : ofTransfer i log event c ≡ [] = idle .no-transfer [] _ in
+    rw (t, s, w, x)
+
 -- an event that is taken, with the watch off before it and after
 module _ (i : ℕ) (log : List ℕ) (c : Chip) (off : c .watch ≡ Off) (h : i < length (c .fans)) where
   taken-own : (event : Event) → inRange log event ≡ true → isOff (taken log event c .watch) ≡ true
       → fanOf i (taken log event c) ≡ played (ofEvent i log event c) (fanOf i c)
-  unfolding taken atDefaults
-  taken-own (PowerOn address) r e = absurd (false≢true e)
-  taken-own (Ticks n) r e = fan-ticks c i n off h .0 ∙ played-ticks n (fanOf i c)
-  taken-own (Sample fan n) r e =
+  unfolding taken atDefaults played
+  taken-own =
+      by-effect
+      (λ (e : Event).
+      inRange log e ≡ true → isOff (taken log e c .watch) ≡ true → fanOf i (taken log e c) ≡ played (ofEvent i log e c) (fanOf i c))
+      (λ address r o. absurd (false≢true o))
+      (λ n r o. rw (append-nil (replicate n tick)) (fan-ticks c i n off h .0 ∙ played-ticks n (fanOf i c)))
+      (λ fan n r o.
       let some = leb-true 1 fan (and-left (leb 1 fan) (leb fan 5) (and-left (fanInRange fan) (leb n 8191) r)) in
-      rw (off, ← same-fan fan i some) (one-own i (fan - 1) (sample n) c h)
-  taken-own (Wish fan drive) r e =
+      rw (append-nil (ofSample i (Sample fan n)), off, ← same-fan fan i some) (one-own i (fan - 1) (sample n) c h))
+      (λ fan drive r o.
       let some = leb-true 1 fan (and-left (leb 1 fan) (leb fan 5) r) in
-      rw (← same-fan fan i some) (one-own i (fan - 1) (wish drive) c h)
-  taken-own (Transfer true to place n) r e = reads-own i (getD log place 0) (getD log place 0) (fedChip c) h
-  taken-own (Transfer false to place n) r e = sent-own i (bytesAt log place n) (fedChip c) h
+      rw (append-nil (ofWish i (Wish fan drive)), ← same-fan fan i some) (one-own i (fan - 1) (wish drive) c h))
+      (λ to place n r o. reads-own i (getD log place 0) (getD log place 0) (fedChip c) h)
+      (λ to place n r o. sent-own i (bytesAt log place n) (fedChip c) h)
+      (λ e idle r o. rw (idle .leaves log c, idle-own i log e c idle))
 
 pub event-own : (h : Handed) (c : Chip) (i : ℕ) → i < length (c .fans) → watchOff h c ≡ true
     → fanOf i (next h c) ≡ played (cond (isTaken h c) (ofEvent i (h .log) (h .event) c) []) (fanOf i c)

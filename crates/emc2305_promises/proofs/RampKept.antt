@@ -13,6 +13,7 @@ use Rattle.laws.specs.Repeat.{repeated}
 use Rattle.laws.proofs.Tests.{by-test, and-left}
 use Rattle.eventlog.specs.declared.Event.{Event}
 use Rattle.eventlog.specs.declared.Event.the-variants.{PowerOn, Ticks, Sample, Wish, Transfer}
+use Rattle.eventlog.specs.Kinds.{ticksOf}
 use Rattle.eventlog.specs.Range.{inRange}
 use Rattle.emc2305_fan.specs.declared.Fan.{Fan}
 use Rattle.emc2305_fan.specs.State.{withWish}
@@ -33,8 +34,9 @@ use Rattle.emc2305_chip.specs.Ticks.{chipTicked}
 use Rattle.emc2305_chip.proofs.ChipTicks.{fan-ticks}
 use Rattle.emc2305_chip.proofs.Promises.{one-fan}
 use Rattle.emc2305.specs.Step.{taken}
-use Rattle.emc2305.specs.Traffic.{storesTo, ticksOf}
+use Rattle.emc2305.specs.Traffic.{storesTo}
 use Rattle.emc2305.specs.Promises.{butStatus}
+use Rattle.emc2305.proofs.Effects.{by-effect}
 use Rattle.emc2305.proofs.FansKept.{other-fans}
 use Rattle.emc2305_promises.specs.Ramp.{Handed, next, isTaken, fanOf, noPowerOn, noStoredWrite, noNewWish, noSampleStarts, watchOff, undisturbed, RampingFan, Ramping}
 use Rattle.emc2305_promises.proofs.Events.{is-off, by-taken}
@@ -141,15 +143,25 @@ module _ (i d g s u p : ℕ) (log : List ℕ) (room : ℕ) (c : Chip) (r : Rampi
   own : (k : ℕ) (move : Fan → Fan) → i ≡ k → fan (onFan k move c) ≡ move (fan c)
   own k move e = subst (λ (k : ℕ). fan (onFan k move c) ≡ move (fan c)) e (one-fan c i move .0 (there i c (r .0)))
 
-  of-taken : (event : Event) → isTaken (handed event) c ≡ true → next (handed event) c ≡ taken log event c → inRange log event ≡ true
+  -- it ramps on over an event that is taken, by the ticks that the event holds
+  abbrev RampsOn : Event → Type 0
+  RampsOn event =
+      isTaken (handed event) c ≡ true → next (handed event) c ≡ taken log event c → inRange log event ≡ true
       → undisturbed i (handed event) c ≡ true → Ramped (ticksOf event) i d g s u p (next (handed event) c)
-  unfolding taken
-  of-taken (PowerOn address) t e ranged q =
+
+  power-on-kept : (address : ℕ) → RampsOn (PowerOn address)
+  power-on-kept address t e ranged q =
       let event = PowerOn address in
       let none : not (isTaken (handed event) c && true) ≡ true = parts i (handed event) c q .0 in
       absurd (false≢true (rw t at none))
-  of-taken (Ticks count) t e ranged q = rw e (chip-ticks count i d g s u p c r (off-before i (handed (Ticks count)) c q))
-  of-taken (Sample k count) t e ranged q =
+
+  ticks-kept : (count : ℕ) → RampsOn (Ticks count)
+  unfolding taken
+  ticks-kept count t e ranged q = rw e (chip-ticks count i d g s u p c r (off-before i (handed (Ticks count)) c q))
+
+  sample-kept : (k count : ℕ) → RampsOn (Sample k count)
+  unfolding taken
+  sample-kept k count t e ranged q =
       let event = Sample k count in
       let w = inPowerUp (c .watch) in
       let f = sampled count w (fan c) in
@@ -160,7 +172,10 @@ module _ (i d g s u p : ℕ) (log : List ℕ) (room : ℕ) (c : Chip) (r : Rampi
       let still : f .spin .running ≡ false = not-true (f .spin .running) (rw (r .1, is) at none) in
       no-ticks i d g s u p (next (handed event) c) (subst (RampingFan d g s u p) (sym is) (of-sample d g s u p count w (fan c) still r)))
       (λ n. kept event (other-fans c log room i .0 k count (eqb-false i (k - 1) n)))
-  of-taken (Wish k drive) t e ranged q =
+
+  wish-kept : (k drive : ℕ) → RampsOn (Wish k drive)
+  unfolding taken
+  wish-kept k drive t e ranged q =
       let event = Wish k drive in
       let some = leb-true 1 k (and-left (leb 1 k) (leb k 5) ranged) in
       by-test (eqb k (i + 1))
@@ -170,13 +185,22 @@ module _ (i d g s u p : ℕ) (log : List ℕ) (room : ℕ) (c : Chip) (r : Rampi
       let none : not (eqb k (i + 1) && not (eqb (fan (next (handed event) c) .wish) (fan c .wish))) ≡ true = parts i (handed event) c q .2 in
       kept event (is ∙ of-wish drive (fan c) (rw (y, is) at none)))
       (λ n. kept event (other-fans c log room i .1 k drive (λ at. eqb-false k (i + 1) n (omega arith))))
-  of-taken (Transfer true to place n) t e ranged q =
+
+  read-kept : (to place n : ℕ) → RampsOn (Transfer true to place n)
+  read-kept to place n t e ranged q =
       let after = next (handed (Transfer true to place n)) c in
       no-ticks i d g s u p after (of-status d g s u p (fan c) (fan after) (other-fans c log room i .3 to place n) r)
-  of-taken (Transfer false to place n) t e ranged q =
+
+  write-kept : (to place n : ℕ) → RampsOn (Transfer false to place n)
+  write-kept to place n t e ranged q =
       let event = Transfer false to place n in
       let none : not (isTaken (handed event) c && storesTo i log event c) ≡ true = parts i (handed event) c q .1 in
       kept event (other-fans c log room i .2 to place n (not-true (storesTo i log event c) (rw t at none)))
+
+  of-taken : (event : Event) → RampsOn event
+  of-taken =
+      by-effect RampsOn power-on-kept ticks-kept sample-kept wish-kept read-kept write-kept
+      (λ event idle t e ranged q. let none : ticksOf event ≡ 0 = idle .no-ticks 0 _ in rw none (kept event (ap fan (e ∙ idle .leaves log c))))
 
 pub of-event : (i d g s u p : ℕ) (h : Handed) (c : Chip) → Ramping i d g s u p c → undisturbed i h c ≡ true
     → Ramped (cond (isTaken h c) (ticksOf (h .event)) 0) i d g s u p (next h c)

@@ -8,7 +8,7 @@ use lib.ListN.{length, getD, replicate}
 use Rattle.laws.specs.Buffer.{bytesAt}
 use Rattle.laws.specs.Repeat.{repeated}
 use Rattle.eventlog.specs.declared.Event.{Event}
-use Rattle.eventlog.specs.declared.Event.the-variants.{PowerOn, Ticks, Sample, Wish, Transfer}
+use Rattle.eventlog.specs.Kinds.{onTicks, onSample, onWish, onTransfer}
 use Rattle.emc2305_fan.specs.declared.Fan.{Fan}
 use Rattle.emc2305_fan.specs.Drive.{wished}
 use Rattle.emc2305_fan.specs.Tick.{ticked}
@@ -69,14 +69,28 @@ unfoldable pub ofReads : ℕ → ℕ → Chip → List Own
 ofReads n zero c = []
 ofReads n (suc k) c = ofReads n k c ++ ofRead (repeated k (byteRead n) c .pointer)
 
--- of an event that is taken; a power-on starts the power-up watch, and is none of those spoken of here
+-- of ticks: each of them
+abbrev pub ofTicks : Event → List Own
+ofTicks = onTicks [] (λ count. replicate count tick)
+
+-- of a sample: one for fan i + 1
+abbrev pub ofSample : ℕ → Event → List Own
+ofSample i = onSample [] (λ fan count. cond (eqb fan (i + 1)) (sample count ∷ []) [])
+
+-- of a wish: one for fan i + 1
+abbrev pub ofWish : ℕ → Event → List Own
+ofWish i = onWish [] (λ fan drive. cond (eqb fan (i + 1)) (wish drive ∷ []) [])
+
+-- of a transfer: of its bytes, read or written
+abbrev pub ofTransfer : ℕ → List ℕ → Event → Chip → List Own
+ofTransfer i log event c =
+    onTransfer []
+    (λ reads to place n.
+    cond reads (ofReads (getD log place 0) (getD log place 0) (fedChip c)) (ofWrite i (bytesAt log place n) (fedChip c))) event
+
+-- of an event that is taken, whichever of these it is; a power-on starts the power-up watch, and is none of those spoken of here
 abbrev pub ofEvent : ℕ → List ℕ → Event → Chip → List Own
-ofEvent i log (PowerOn address) c = []
-ofEvent i log (Ticks count) c = replicate count tick
-ofEvent i log (Sample fan count) c = cond (eqb fan (i + 1)) (sample count ∷ []) []
-ofEvent i log (Wish fan drive) c = cond (eqb fan (i + 1)) (wish drive ∷ []) []
-ofEvent i log (Transfer reads to place n) c =
-    cond reads (ofReads (getD log place 0) (getD log place 0) (fedChip c)) (ofWrite i (bytesAt log place n) (fedChip c))
+ofEvent i log event c = ofTicks event ++ (ofSample i event ++ (ofWish i event ++ ofTransfer i log event c))
 
 -- of a sequence: nothing of an event that is refused
 unfoldable pub ownTraffic : ℕ → List Handed → Chip → List Own

@@ -8,6 +8,7 @@ use lib.Dec.{leb}
 use lib.ListN.{take, drop}
 use Rattle.laws.specs.Repeat.{repeated}
 use Rattle.eventlog.specs.declared.Event.the-variants.{Ticks}
+use Rattle.eventlog.specs.Kinds.{ticksOf}
 use Rattle.emc2305_fan.specs.declared.Fan.{Fan}
 use Rattle.emc2305_fan.specs.Ramp.{distance, moved}
 use Rattle.emc2305_fan.specs.Drive.{underRamp, period}
@@ -16,7 +17,6 @@ use Rattle.emc2305_fan.specs.Promises.{updatesTo}
 use Rattle.emc2305_watchdog.specs.Watch.{isOff}
 use Rattle.emc2305_chip.specs.declared.Chip.{Chip}
 use Rattle.emc2305_chip.specs.Ticks.{chipTicked}
-use Rattle.emc2305.specs.Traffic.{ticksOf}
 use Rattle.emc2305_promises.specs.Ramp.{Handed, next, isTaken, afterAll, throughout, takenTicks, fanOf, undisturbed, Ramping}
 
 -- an event that is refused meets every condition, where the watch is off

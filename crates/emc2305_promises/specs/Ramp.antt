@@ -5,6 +5,7 @@ use mathlib.Core.List.{List, [], _∷_}
 use Prim.Native.Nat.{ℕ, _+_, _*_, _/_, _%_, _<_}
 use lib.Dec.{eqb}
 use Rattle.eventlog.specs.declared.Event.{Event}
+use Rattle.eventlog.specs.Kinds.{isPowerOn, ticksOf}
 use Rattle.emc2305_fan.specs.declared.Fan.{Fan}
 use Rattle.emc2305_fan.specs.Ramp.{moved}
 use Rattle.emc2305_fan.specs.Drive.{goal, underRamp, step, period}
@@ -12,7 +13,7 @@ use Rattle.emc2305_watchdog.specs.Watch.{isOff}
 use Rattle.emc2305_chip.specs.declared.Chip.{Chip}
 use Rattle.emc2305_chip.specs.Fans.{fanAt}
 use Rattle.emc2305.specs.Step.{stepped}
-use Rattle.emc2305.specs.Traffic.{storesTo, isPowerOn, isSample, isWishFor, ticksOf}
+use Rattle.emc2305.specs.Traffic.{storesTo, isSample, isWishFor}
 use Rattle.emc2305.specs.Promises.{after}
 
 -- an event with the log and the reply buffer lent to its step; of the buffer only the length counts
