@@ -2,9 +2,9 @@
 use mathlib.Core.Path.{_≡_, refl, sym, ap, _∙_}
 use mathlib.Core.Bool.{true, false, cond, false≢true}
 use mathlib.Core.List.{List, [], _∷_, append-nil}
-use Prim.Native.Nat.{ℕ, zero, suc, _-_, _<_}
+use Prim.Native.Nat.{ℕ, zero, suc, _+_, _-_, _<_}
 use native.Mathlib.Omega.{arith}
-use lib.Dec.{leb}
+use lib.Dec.{leb, eqb}
 use lib.ListN.{length, getD, replicate}
 use borrow.Author.Tests.{leb-true}
 use Rattle.laws.specs.Buffer.{bytesAt}
@@ -18,13 +18,13 @@ use Rattle.emc2305_fan.specs.Tick.{ticked}
 use Rattle.emc2305_watchdog.specs.declared.Watch.the-variants.{Off}
 use Rattle.emc2305_watchdog.specs.Watch.{isOff}
 use Rattle.emc2305_chip.specs.declared.Chip.{Chip}
-use Rattle.emc2305_chip.specs.Registers.{atDefaults, fedChip}
+use Rattle.emc2305_chip.specs.Registers.{atDefaults, onFan, fedChip}
 use Rattle.emc2305_chip.proofs.ChipTicks.{fan-ticks}
 use Rattle.emc2305.specs.Step.{taken}
 use Rattle.emc2305.proofs.Effects.{Idle, by-effect}
 use Rattle.emc2305.proofs.FansKept.{five-fans}
 use Rattle.emc2305_promises.specs.Ramp.{Handed, next, isTaken, afterAll, throughout, fanOf, watchOff}
-use Rattle.emc2305_promises.specs.Alone.{tick, sample, wish, played, ofTicks, ofSample, ofWish, ofTransfer, ofEvent, ownTraffic, Alone, NoFanWaits}
+use Rattle.emc2305_promises.specs.Alone.{Own, tick, sample, wish, moveBy, played, ofTicks, ofSample, ofWish, ofTransfer, ofEvent, ownTraffic, Alone, NoFanWaits}
 use Rattle.emc2305_promises.proofs.Events.{is-off, same-fan, by-taken, first-rest}
 use Rattle.emc2305_promises.proofs.OwnBytes.{both, one-own, sent-own, reads-own}
 
@@ -50,6 +50,11 @@ idle-own i log event c idle =
 
 -- an event that is taken, with the watch off before it and after
 module _ (i : ℕ) (log : List ℕ) (c : Chip) (off : c .watch ≡ Off) (h : i < length (c .fans)) where
+  -- a sample or a wish, by the number of its fan
+  for-fan : (fan : ℕ) (own : Own) → fanInRange fan ≡ true
+      → fanOf i (onFan (fan - 1) (moveBy own) c) ≡ played (cond (eqb fan (i + 1)) (own ∷ []) []) (fanOf i c)
+  for-fan fan own r = rw (← same-fan fan i (leb-true 1 fan (and-left (leb 1 fan) (leb fan 5) r))) (one-own i (fan - 1) own c h)
+
   taken-own : (event : Event) → inRange log event ≡ true → isOff (taken log event c .watch) ≡ true
       → fanOf i (taken log event c) ≡ played (ofEvent i log event c) (fanOf i c)
   unfolding taken atDefaults played
@@ -59,12 +64,8 @@ module _ (i : ℕ) (log : List ℕ) (c : Chip) (off : c .watch ≡ Off) (h : i <
       inRange log e ≡ true → isOff (taken log e c .watch) ≡ true → fanOf i (taken log e c) ≡ played (ofEvent i log e c) (fanOf i c))
       (λ address r o. absurd (false≢true o))
       (λ n r o. rw (append-nil (replicate n tick)) (fan-ticks c i n off h .0 ∙ played-ticks n (fanOf i c)))
-      (λ fan n r o.
-      let some = leb-true 1 fan (and-left (leb 1 fan) (leb fan 5) (and-left (fanInRange fan) (leb n 8191) r)) in
-      rw (append-nil (ofSample i (Sample fan n)), off, ← same-fan fan i some) (one-own i (fan - 1) (sample n) c h))
-      (λ fan drive r o.
-      let some = leb-true 1 fan (and-left (leb 1 fan) (leb fan 5) r) in
-      rw (append-nil (ofWish i (Wish fan drive)), ← same-fan fan i some) (one-own i (fan - 1) (wish drive) c h))
+      (λ fan n r o. rw (append-nil (ofSample i (Sample fan n)), off) (for-fan fan (sample n) (and-left (fanInRange fan) (leb n 8191) r)))
+      (λ fan drive r o. rw (append-nil (ofWish i (Wish fan drive))) (for-fan fan (wish drive) r))
       (λ to place n r o. reads-own i (getD log place 0) (getD log place 0) (fedChip c) h)
       (λ to place n r o. sent-own i (bytesAt log place n) (fedChip c) h)
       (λ e idle r o. rw (idle .leaves log c, idle-own i log e c idle))
