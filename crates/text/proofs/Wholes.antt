@@ -1,0 +1,105 @@
+-- A text laid whole or not at all, and in what is left of a buffer.
+use mathlib.Core.Path.{_≡_, refl, sym, ap, _∙_}
+use mathlib.Core.Bool.{true, false}
+use mathlib.Core.List.{List, [], _∷_, _++_, append-nil}
+use Prim.Native.Nat.{ℕ, _+_, _≤_, _<_}
+use native.Mathlib.Omega.{arith}
+use lib.Dec.{leb}
+use lib.ListN.{length, set, length-set}
+use borrow.Author.Tests.{leb-true, le-leb, lt-leb}
+use Rattle.laws.specs.Buffer.{laidOver}
+use Rattle.laws.proofs.Buffer.{lentFrom, backFrom}
+use Rattle.laws.proofs.Tests.{by-test, leb-behind}
+use Rattle.text.specs.declared.Piece.{Piece}
+use Rattle.text.specs.Whole.{laidWhole, pieceOf}
+use Rattle.text.proofs.Texts.{Laid, byte-on, piece-on, same-length, room-left, all-laid}
+
+-- what a function has to answer of a text, and the buffer afterwards
+abbrev pub Whole : List ℕ → List ℕ → Piece → List ℕ → Type 0
+Whole text out p last = (p ≡ pieceOf text (length out)) × (last ≡ laidWhole text out)
+
+-- a text that fits and is laid, and one that does not fit
+module _ (text out : List ℕ) where
+  pub whole : (n : ℕ) (last : List ℕ) → length text ≤ length out → Laid out last n text → Whole text out (record { fits = true; len = n }) last
+  whole n last h laid = let t = le-leb (length text) (length out) h in (rw (t, laid .counts) refl, rw t (laid .holds))
+
+  pub nothing : length out < length text → Whole text out (record { fits = false; len = 0 }) out
+  nothing h = let f = lt-leb (length text) (length out) h in (rw f refl, rw f refl)
+
+-- what an answer says
+module _ (text : List ℕ) (room : ℕ) (p : Piece) (is : p ≡ pieceOf text room) where
+  pub piece-fits : p .fits ≡ leb (length text) room
+  piece-fits = by-test (leb (length text) room) (λ t. rw (is, t) refl) (λ f. rw (is, f) refl)
+
+  pub piece-len : leb (length text) room ≡ true → p .len ≡ length text
+  piece-len t = rw (is, t) refl
+
+-- one that fits is laid
+pub laid-whole : (text out : List ℕ) (p : Piece) (last : List ℕ) → Whole text out p last → length text ≤ length out → Laid out last (p .len) text
+laid-whole text out p last w h =
+    let t = le-leb (length text) (length out) h in
+    record { counts = piece-len text (length out) p (w .0) t; holds = w .1 ∙ rw t refl }
+
+-- a text in what is left of a buffer, behind another
+module _ (out₀ out : List ℕ) (laid : ℕ) (text₀ : List ℕ) (lain : Laid out₀ out laid text₀) (within : laid ≤ length out₀) (text : List ℕ) where
+  -- it fits there where both fit together
+  pub fits-is : leb (length text) (length (lentFrom laid out)) ≡ leb (length text₀ + length text) (length out₀)
+  fits-is =
+      ap (leb (length text)) (room-left out₀ out laid text₀ lain within)
+      ∙ leb-behind laid (length text) (length out₀) within
+      ∙ ap (λ (n : ℕ). leb (n + length text) (length out₀)) (lain .counts)
+
+  pub more-fits : (n : ℕ) → n ≡ length text → leb (length text) (length (lentFrom laid out)) ≡ true → laid + n ≤ length out₀
+  more-fits n counts t =
+      let h : length text ≤ length (lentFrom laid out) = leb-true (length text) (length (lentFrom laid out)) t in
+      omega (arith, room-left out₀ out laid text₀ lain within)
+
+  module _ (part : List ℕ) (lays : part ≡ laidWhole text (lentFrom laid out)) where
+    pub laid-on : (n : ℕ) → n ≡ length text → leb (length text) (length (lentFrom laid out)) ≡ true
+        → Laid out₀ (backFrom laid out part) (laid + n) (text₀ ++ text)
+    laid-on n counts t = piece-on out₀ out laid text₀ lain text part n counts (lays ∙ rw t refl)
+
+    pub laid-off : leb (length text) (length (lentFrom laid out)) ≡ false → Laid out₀ (backFrom laid out part) laid text₀
+    laid-off f =
+        let p = piece-on out₀ out laid text₀ lain [] part 0 refl (lays ∙ rw f refl) in
+        record { counts = lain .counts; holds = p .holds ∙ ap (λ (t : List ℕ). laidOver t out₀) (append-nil text₀) }
+
+    -- the buffer that has come back has its length
+    pub back-length : length (backFrom laid out part) ≡ length out₀
+    back-length =
+        by-test (leb (length text) (length (lentFrom laid out)))
+        (λ t. same-length out₀ (backFrom laid out part) (laid + length text) (text₀ ++ text) (laid-on (length text) refl t) (more-fits (length text) refl t))
+        (λ f. same-length out₀ (backFrom laid out part) laid text₀ (laid-off f) within)
+
+  -- by what a function answers that was lent the rest of the buffer
+  module _ (p : Piece) (part : List ℕ) (says : Whole text (lentFrom laid out) p part) where
+    abbrev test : p .fits ≡ leb (length text) (length (lentFrom laid out))
+    test = piece-fits text (length (lentFrom laid out)) p (says .0)
+
+    pub says-fits : p .fits ≡ leb (length text₀ + length text) (length out₀)
+    says-fits = test ∙ fits-is
+
+    pub taken-counts : p .fits ≡ true → p .len ≡ length text
+    taken-counts t = piece-len text (length (lentFrom laid out)) p (says .0) (sym test ∙ t)
+
+    pub taken-within : p .fits ≡ true → laid + p .len ≤ length out₀
+    taken-within t = more-fits (p .len) (taken-counts t) (sym test ∙ t)
+
+    pub taken : p .fits ≡ true → Laid out₀ (backFrom laid out part) (laid + p .len) (text₀ ++ text)
+    taken t = laid-on part (says .1) (p .len) (taken-counts t) (sym test ∙ t)
+
+    pub left : p .fits ≡ false → Laid out₀ (backFrom laid out part) laid text₀
+    left f = laid-off part (says .1) (sym test ∙ f)
+
+-- the end of a line, behind what is laid of it
+module _ (out cur : List ℕ) (at : ℕ) (done : List ℕ) (laid : Laid out cur at done) (room : at < length out) where
+  pub end-room : at < length cur
+  end-room = rw (same-length out cur at done laid (omega arith)) room
+
+  pub end-keeps : length (set cur at 0x0A) ≡ length out
+  end-keeps = length-set cur at 0x0A ∙ same-length out cur at done laid (omega arith)
+
+  pub end-whole : (text : List ℕ) → done ++ (0x0A ∷ []) ≡ text → Whole text out (record { fits = true; len = at + 1 }) (set cur at 0x0A)
+  end-whole text is =
+      let l = all-laid out (set cur at 0x0A) (at + 1) (done ++ (0x0A ∷ [])) (byte-on out cur at done laid 0x0A room) text is in
+      whole text out (at + 1) (set cur at 0x0A) (omega (arith, l .0)) (record { counts = l .0; holds = l .1 })
