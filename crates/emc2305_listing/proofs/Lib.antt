@@ -1,16 +1,1 @@
-pub mod Lengths
-pub mod Walks
-pub mod Moves
-pub mod OneCall
-pub mod Buffers
-pub mod Cuttings
-pub mod StepRooms
-pub mod SameRuns
-pub mod Advances
-pub mod LineCounts
 pub mod Promises
-pub mod Endings
-pub mod Texts
-pub mod Lines
-pub mod Scratch
-pub mod Calls

@@ -23,9 +23,13 @@ use Rattle.emc2305_chip.specs.declared.Chip.{Chip}
 use Rattle.emc2305_chip.specs.Ticks.{chipTicked}
 use Rattle.emc2305.specs.Step.{stepNumber, stepped}
 use Rattle.emc2305.specs.Traffic.{isSample, isWishFor}
-use Rattle.emc2305_promises.specs.Ramp.{Handed, next, isTaken, afterAll, throughout, takenTicks, fanOf, undisturbed, Ramping}
+use Rattle.walks.specs.Sequence.{Handed}
+use Rattle.walks.specs.Sequence as any
+use Rattle.emc2305_promises.specs.Ramp.{next, isTaken, afterAll, throughout, takenTicks, fanOf, undisturbed, Ramping}
 use Rattle.emc2305_promises.specs.Corollaries.{RefusedMeets, TicksTaken, UpdateTicks, updatesIn, updatesMade, Arrival, ticksAt, AtEachPoint, NeverPasses}
-use Rattle.emc2305_promises.proofs.Events.{by-taken, first-rest}
+use Rattle.walks.proofs.Sequences.{first-rest}
+use Rattle.emc2305_run.specs.Device.{emc2305}
+use Rattle.emc2305_promises.proofs.Events.{by-taken}
 use Rattle.emc2305_promises.proofs.RampKept.{Ramped, no-ticks, off-before, chip-ticks, of-event}
 use Rattle.emc2305_promises.proofs.Demand3.{div-then, moved-then, and-then, ramp-promise}
 
@@ -80,12 +84,12 @@ module _ (i d g s u p : ℕ) (c : Chip) (r : Ramping i d g s u p c) where
 
 made : (i d g s u p : ℕ) (c : Chip) (events : List Handed) → Ramping i d g s u p c → throughout (undisturbed i) events c ≡ true
     → updatesMade i events c ≡ (p + takenTicks events c) / u
-unfolding updatesMade takenTicks
+unfolding updatesMade any.takenTicks
 made i d g s u p c [] r q = rw (add-zero p, div-eq-of-lt (r .7))
 made i d g s u p c (h ∷ rest) r q =
     let n : ℕ = cond (isTaken h c) (ticksOf (h .event)) 0 in
     let t = takenTicks rest (next h c) in
-    let f = first-rest (undisturbed i) h rest c q in
+    let f = first-rest emc2305 (undisturbed i) h rest c q in
     rw (
       in-event i d g s u p c r h (f .0),
       made i _ g s u _ (next h c) rest (of-event i d g s u p h c r (f .0)) (f .1),
@@ -102,17 +106,17 @@ arrival i d g s u p c events r q =
 -- a sequence that is cut after k events
 kept-cut : (rule : Handed → Chip → Bool) (k : ℕ) (events : List Handed) (c : Chip) → throughout rule events c ≡ true
     → (throughout rule (take k events) c ≡ true) × (throughout rule (drop k events) (afterAll (take k events) c) ≡ true)
-unfolding throughout afterAll
+unfolding any.throughout any.afterAll
 kept-cut rule zero events c q = (refl, q)
 kept-cut rule (suc k) [] c q = (refl, refl)
 kept-cut rule (suc k) (h ∷ rest) c q =
-    let f = first-rest rule h rest c q in
+    let f = first-rest emc2305 rule h rest c q in
     let b = kept-cut rule k rest (next h c) (f .1) in (rw (f .0) (b .0), b .1)
 
 -- the ticks up to an event and its own are no more than those up to a later one
 ticks-up-to : (k l : ℕ) (events : List Handed) (c : Chip) → k < l
     → takenTicks (take k events) c + ticksAt k events c ≤ takenTicks (take l events) c
-unfolding takenTicks afterAll
+unfolding any.takenTicks any.afterAll
 ticks-up-to k zero events c h = absurd (omega arith)
 ticks-up-to zero (suc l) [] c h = omega arith
 ticks-up-to zero (suc l) (first ∷ rest) c h = omega arith
@@ -124,11 +128,11 @@ ticks-up-to (suc k) (suc l) (first ∷ rest) c h =
 -- m ticks of the first event
 point : (m i d g s u p : ℕ) (c : Chip) (events : List Handed) → Ramping i d g s u p c → throughout (undisturbed i) events c ≡ true
     → m ≤ takenTicks (take 1 events) c → Ramped m i d g s u p (repeated m chipTicked c)
-unfolding repeated takenTicks
+unfolding repeated any.takenTicks
 point zero i d g s u p c events r q h = no-ticks i d g s u p c r
 point (suc m) i d g s u p c [] r q h = absurd (omega arith)
 point (suc m) i d g s u p c (first ∷ rest) r q h =
-    chip-ticks (suc m) i d g s u p c r (off-before i first c (first-rest (undisturbed i) first rest c q .0))
+    chip-ticks (suc m) i d g s u p c r (off-before i first c (first-rest emc2305 (undisturbed i) first rest c q .0))
 
 pub at-each-point : AtEachPoint
 at-each-point i d g s u p k m c events r q h =

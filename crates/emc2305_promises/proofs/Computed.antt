@@ -18,27 +18,25 @@ use Rattle.emc2305_chip.specs.Ticks.{allFired, fansTicked, chipTicked}
 use Rattle.emc2305.specs.Transfers.{pointerPast, byteWritten, inTurn, sent, byteRead, replyOf}
 use Rattle.emc2305.specs.Step.{stepNumber, taken, replyTo, stepped}
 use Rattle.emc2305.specs.Traffic.{anyStoresTo, sentStoresTo}
-use Rattle.emc2305_run.specs.Records.{recordsFrom, recordsOf}
-use Rattle.emc2305_run.specs.Run.{runOver, ended, runOf}
-use Rattle.emc2305_run.specs.Promises.{walkOver}
-use Rattle.emc2305_promises.specs.Ramp.{afterAll, throughout, takenTicks}
+use Rattle.records.specs.Records.{recordsFrom, recordsOf}
+use Rattle.walks.specs.Run.{runOver, ended, runOf}
+use Rattle.walks.specs.Sequence as any
 use Rattle.emc2305_promises.specs.Corollaries.{updatesIn, updatesMade}
-use Rattle.emc2305_promises.specs.Trace.{handedOver}
 use Rattle.emc2305_promises.specs.Busy.{numbersOf, BusyRamp, ClosedRamp, TraceRamp}
 use Rattle.emc2305_promises.specs.Examples.{Examples}
 
 pub examples-hold : Examples
-unfolding repeated rangeNumber readAt locked shown stores powerOn moved goal underRamp spinDrive started tooSlow spinFailed spinOver spinTick updated counted ticked wishTaken clockSet settled written withReading stall sampled fired registerOf bitsOf atDefaults fanStored shownAt storesAt writtenAt pointerPast byteWritten inTurn sent allFired fansTicked chipTicked stepNumber taken stepped afterAll
+unfolding repeated rangeNumber readAt locked shown stores powerOn moved goal underRamp spinDrive started tooSlow spinFailed spinOver spinTick updated counted ticked wishTaken clockSet settled written withReading stall sampled fired registerOf bitsOf atDefaults fanStored shownAt storesAt writtenAt pointerPast byteWritten inTurn sent allFired fansTicked chipTicked stepNumber taken stepped any.afterAll
 examples-hold = refl
 
 pub busy-ramp : BusyRamp
-unfolding repeated rangeNumber locked stores powerOn moved goal underRamp wished spinDrive started tooSlow spinFailed spinOver spinTick updated counted ticked wishTaken clockSet settled written withReading stall sampled registerOf atDefaults fanStored storesAt writtenAt clearedAt pointerPast byteWritten inTurn sent byteRead allFired fansTicked chipTicked stepNumber taken stepped anyStoresTo sentStoresTo afterAll throughout takenTicks updatesIn updatesMade numbersOf
+unfolding repeated rangeNumber locked stores powerOn moved goal underRamp wished spinDrive started tooSlow spinFailed spinOver spinTick updated counted ticked wishTaken clockSet settled written withReading stall sampled registerOf atDefaults fanStored storesAt writtenAt clearedAt pointerPast byteWritten inTurn sent byteRead allFired fansTicked chipTicked stepNumber taken stepped anyStoresTo sentStoresTo any.afterAll any.throughout any.takenTicks updatesIn updatesMade numbersOf
 busy-ramp = ((refl, refl, refl, refl, refl, refl, refl, omega arith), refl, refl, refl, refl, refl, refl)
 
 pub closed-ramp : ClosedRamp
-unfolding repeated rangeNumber locked stores powerOn moved goal underRamp wished spinDrive started tooSlow spinFailed spinOver spinTick updated counted ticked wishTaken clockSet settled written withReading stall sampled registerOf atDefaults fanStored storesAt writtenAt pointerPast byteWritten inTurn sent allFired fansTicked chipTicked stepNumber taken stepped anyStoresTo sentStoresTo afterAll throughout takenTicks numbersOf
+unfolding repeated rangeNumber locked stores powerOn moved goal underRamp wished spinDrive started tooSlow spinFailed spinOver spinTick updated counted ticked wishTaken clockSet settled written withReading stall sampled registerOf atDefaults fanStored storesAt writtenAt pointerPast byteWritten inTurn sent allFired fansTicked chipTicked stepNumber taken stepped anyStoresTo sentStoresTo any.afterAll any.throughout any.takenTicks numbersOf
 closed-ramp = (refl, (refl, refl, refl, refl, refl, refl, refl, omega arith), refl, refl, refl, refl)
 
 pub trace-ramp : TraceRamp
-unfolding repeated rangeNumber readAt locked shown stores powerOn moved goal underRamp wished spinDrive started tooSlow spinFailed spinOver spinTick updated counted ticked wishTaken clockSet settled written withReading stall sampled registerOf atDefaults fanStored shownAt storesAt writtenAt clearedAt pointerPast byteWritten inTurn sent byteRead replyOf allFired fansTicked chipTicked stepNumber taken replyTo stepped anyStoresTo sentStoresTo recordsFrom recordsOf runOver ended runOf walkOver handedOver afterAll throughout takenTicks
+unfolding repeated rangeNumber readAt locked shown stores powerOn moved goal underRamp wished spinDrive started tooSlow spinFailed spinOver spinTick updated counted ticked wishTaken clockSet settled written withReading stall sampled registerOf atDefaults fanStored shownAt storesAt writtenAt clearedAt pointerPast byteWritten inTurn sent byteRead replyOf allFired fansTicked chipTicked stepNumber taken replyTo stepped anyStoresTo sentStoresTo recordsFrom recordsOf runOver ended runOf any.walkOver any.handedOver any.afterAll any.throughout any.takenTicks
 trace-ramp = ((refl, refl, refl, refl, refl, refl, refl, omega arith), refl, refl, refl, refl, refl)

@@ -9,8 +9,10 @@ use Rattle.eventlog.specs.Kinds.{ticksOf}
 use Rattle.emc2305_fan.specs.Ramp.{moved}
 use Rattle.emc2305_fan.proofs.Ramps.{moved-twice}
 use Rattle.emc2305_chip.specs.declared.Chip.{Chip}
+use Rattle.walks.specs.Sequence as any
 use Rattle.emc2305_promises.specs.Ramp.{next, isTaken, afterAll, takenTicks, undisturbed, RampPromise}
-use Rattle.emc2305_promises.proofs.Events.{first-rest}
+use Rattle.walks.proofs.Sequences.{first-rest}
+use Rattle.emc2305_run.specs.Device.{emc2305}
 use Rattle.emc2305_promises.proofs.RampKept.{Ramped, no-ticks, of-event}
 
 -- the whole parts of a sum, one summand after the other
@@ -30,9 +32,9 @@ pub and-then : (m n i d g s u p : ℕ) (c : Chip) → Ramped n i (moved d g (s *
 and-then m n i d g s u p c r = rw (moved-then m n d g s u p (omega arith), ← add-assoc p m n, ← mod-add-mod (p + m) u n) r
 
 pub ramp-promise : RampPromise
-unfolding afterAll takenTicks
+unfolding any.afterAll any.takenTicks
 ramp-promise i d g s u p c [] r q = no-ticks i d g s u p c r
 ramp-promise i d g s u p c (h ∷ rest) r q =
-    let f = first-rest (undisturbed i) h rest c q in
+    let f = first-rest emc2305 (undisturbed i) h rest c q in
     and-then (cond (isTaken h c) (ticksOf (h .event)) 0) (takenTicks rest (next h c)) i d g s u p (afterAll rest (next h c))
     (ramp-promise i _ g s u _ (next h c) rest (of-event i d g s u p h c r (f .0)) (f .1))

@@ -1,22 +1,23 @@
--- An event is taken or leaves the chip as it was; what holds throughout a sequence; the watch off.
-use mathlib.Core.Path.{_≡_, refl, sym, _∙_}
-use mathlib.Core.Bool.{Bool, true, false, false≢true}
-use mathlib.Core.List.{List, _∷_}
+-- An event is taken or leaves the chip as it was; the watch off.
+use mathlib.Core.Path.{_≡_, refl, sym, ap, _∙_}
+use mathlib.Core.Bool.{true, false, false≢true}
 use Prim.Native.Nat.{ℕ, _+_, _-_, _≤_}
 use native.Mathlib.Omega.{arith}
 use lib.Dec.{eqb}
 use borrow.Author.Tests.{eqb-true, eqb-false, eq-eqb, ne-eqb}
-use Rattle.laws.proofs.Tests.{by-test, and-left, and-right}
+use Rattle.laws.proofs.Tests.{by-test}
+use Rattle.eventlog.specs.Kinds.{replyLength}
 use Rattle.eventlog.specs.Range.{inRange}
 use Rattle.eventlog.proofs.Ranges.{in-range}
 use Rattle.emc2305_watchdog.specs.declared.Watch.{Watch}
 use Rattle.emc2305_watchdog.specs.declared.Watch.the-variants.{Off, PowerUp, Continuous}
 use Rattle.emc2305_watchdog.specs.Watch.{isOff}
 use Rattle.emc2305_chip.specs.declared.Chip.{Chip}
+use Rattle.emc2305.specs.declared.Answer.{Answer}
 use Rattle.emc2305.specs.Step.{stepNumber, taken, stepped}
-use Rattle.emc2305.specs.Promises.{after}
 use Rattle.emc2305.proofs.Numbers.{step-numbers}
-use Rattle.emc2305_promises.specs.Ramp.{Handed, next, isTaken, throughout}
+use Rattle.walks.specs.Sequence.{Handed}
+use Rattle.emc2305_promises.specs.Ramp.{next, isTaken}
 
 pub is-off : (w : Watch) → isOff w ≡ true → w ≡ Off
 is-off Off e = refl
@@ -37,12 +38,12 @@ module _ (h : Handed) (c : Chip) where
   by-taken is isnt =
       let n = stepNumber (c .powered) (c .address) (h .log) (h .event) (h .room) in
       let numbers = step-numbers (c .powered) (c .address) (h .log) (h .event) (h .room) in
-      by-test (eqb n 0) (λ t. is (rw (t, isTaken)) (rw (t, next, after)) (in-range (h .log) (h .event) (numbers .4 .0 (eqb-true n 0 t) .0)))
-      (λ t. isnt (rw (t, isTaken, t)) (rw (t, next, after)))
-
--- what holds throughout a sequence, at its first event and throughout the rest
-pub first-rest : (rule : Handed → Chip → Bool) (h : Handed) (rest : List Handed) (c : Chip) → throughout rule (h ∷ rest) c ≡ true
-    → (rule h c ≡ true) × (throughout rule rest (next h c) ≡ true)
-unfolding throughout
-first-rest rule h rest c q =
-    (and-left (rule h c) (throughout rule rest (next h c)) q, and-right (rule h c) (throughout rule rest (next h c)) q)
+      by-test (eqb n 0)
+      (λ t.
+      let e : stepped c (h .log) (h .event) (h .room)
+      ≡ record { number = 0; laid = replyLength (h .log) (h .event); chip = taken (h .log) (h .event) c } = rw t in
+      is (ap (λ (a : Answer). eqb (a .number) 0) e) (ap (λ (a : Answer). a .chip) e)
+      (in-range (h .log) (h .event) (numbers .4 .0 (eqb-true n 0 t) .0)))
+      (λ f.
+      let e : stepped c (h .log) (h .event) (h .room) ≡ record { number = n; laid = 0; chip = c } = rw f in
+      isnt (ap (λ (a : Answer). eqb (a .number) 0) e ∙ f) (ap (λ (a : Answer). a .chip) e))

@@ -24,9 +24,13 @@ use Rattle.emc2305.specs.Step.{stepNumber, taken}
 use Rattle.emc2305.proofs.Effects.{by-effect}
 use Rattle.emc2305.proofs.Numbers.{numbered}
 use Rattle.emc2305.proofs.FansKept.{write-counts, five-fans}
-use Rattle.emc2305_promises.specs.Ramp.{Handed, next, isTaken, throughout, fanOf, watchOff}
+use Rattle.walks.specs.Sequence.{Handed}
+use Rattle.walks.specs.Sequence as any
+use Rattle.emc2305_promises.specs.Ramp.{next, isTaken, throughout, fanOf, watchOff}
 use Rattle.emc2305_promises.specs.Alone.{store, ofByte, ofBytes, ofWrite, ofReads, ofEvent, ownTraffic, OthersAside}
-use Rattle.emc2305_promises.proofs.Events.{is-off, by-taken, first-rest}
+use Rattle.walks.proofs.Sequences.{first-rest}
+use Rattle.emc2305_run.specs.Device.{emc2305}
+use Rattle.emc2305_promises.proofs.Events.{is-off, by-taken}
 use Rattle.emc2305_promises.proofs.OwnBytes.{byte-own}
 use Rattle.emc2305_promises.proofs.OwnTraffic.{idle-own, event-own, no-fan-waits}
 use Rattle.emc2305_promises.proofs.Bare.{bare, byte-bare, byte-up, reads-bare, taken-bare}
@@ -112,10 +116,10 @@ module _ (h : Handed) (c d : Chip) (same : bare c ≡ bare d) where
 module _ (i : ℕ) (l : i < 5) where
   sequence : (c d : Chip) (events : List Handed) → length (c .fans) ≡ 5 → length (d .fans) ≡ 5 → bare c ≡ bare d → fanOf i c ≡ fanOf i d
       → throughout watchOff events c ≡ true → (throughout watchOff events d ≡ true) × (ownTraffic i events c ≡ ownTraffic i events d)
-  unfolding throughout ownTraffic
+  unfolding any.throughout ownTraffic
   sequence c d [] five cinq same fan quiet = (refl, refl)
   sequence c d (h ∷ rest) five cinq same fan quiet =
-      let q = first-rest watchOff h rest c quiet in
+      let q = first-rest emc2305 watchOff h rest c quiet in
       let here = q .0 in
       let off = is-off (c .watch) (and-left (isOff (c .watch)) (isOff (next h c .watch)) here) in
       let there = sym (same-watch h c d same off) ∙ here in

@@ -23,9 +23,13 @@ use Rattle.emc2305_chip.proofs.ChipTicks.{fan-ticks}
 use Rattle.emc2305.specs.Step.{taken}
 use Rattle.emc2305.proofs.Effects.{Idle, by-effect}
 use Rattle.emc2305.proofs.FansKept.{five-fans}
-use Rattle.emc2305_promises.specs.Ramp.{Handed, next, isTaken, afterAll, throughout, fanOf, watchOff}
+use Rattle.walks.specs.Sequence.{Handed}
+use Rattle.walks.specs.Sequence as any
+use Rattle.emc2305_promises.specs.Ramp.{next, isTaken, afterAll, throughout, fanOf, watchOff}
 use Rattle.emc2305_promises.specs.Alone.{Own, tick, sample, wish, moveBy, played, ofTicks, ofSample, ofWish, ofTransfer, ofEvent, ownTraffic, Alone, NoFanWaits}
-use Rattle.emc2305_promises.proofs.Events.{is-off, same-fan, by-taken, first-rest}
+use Rattle.walks.proofs.Sequences.{first-rest}
+use Rattle.emc2305_run.specs.Device.{emc2305}
+use Rattle.emc2305_promises.proofs.Events.{is-off, same-fan, by-taken}
 use Rattle.emc2305_promises.proofs.OwnBytes.{both, one-own, sent-own, reads-own}
 
 -- a step before n steps is one after them
@@ -79,11 +83,11 @@ event-own h c i l quiet =
     by-taken h c (λ t e r. rw (t, e) (taken-own i (h .log) c off l (h .event) r (rw e at still))) (λ t e. rw (t, e))
 
 pub alone : Alone
-unfolding throughout afterAll ownTraffic played
+unfolding any.throughout any.afterAll ownTraffic played
 alone i c [] five l quiet = refl
 alone i c (h ∷ rest) five l quiet =
     let own = cond (isTaken h c) (ofEvent i (h .log) (h .event) c) [] in
-    let q = first-rest watchOff h rest c quiet in
+    let q = first-rest emc2305 watchOff h rest c quiet in
     both own (ownTraffic i rest (next h c)) (fanOf i c) (fanOf i (next h c)) _ (event-own h c i (omega arith) (q .0))
     (alone i (next h c) rest (five-fans c (h .log) (h .event) (h .room) five) l (q .1))
 

@@ -38,7 +38,8 @@ use Rattle.emc2305.specs.Traffic.{storesTo}
 use Rattle.emc2305.specs.Promises.{butStatus}
 use Rattle.emc2305.proofs.Effects.{by-effect}
 use Rattle.emc2305.proofs.FansKept.{other-fans}
-use Rattle.emc2305_promises.specs.Ramp.{Handed, next, isTaken, fanOf, noPowerOn, noStoredWrite, noNewWish, noSampleStarts, watchOff, undisturbed, RampingFan, Ramping}
+use Rattle.walks.specs.Sequence.{Handed}
+use Rattle.emc2305_promises.specs.Ramp.{next, isTaken, fanOf, noPowerOn, noStoredWrite, noNewWish, noSampleStarts, watchOff, undisturbed, RampingFan, Ramping}
 use Rattle.emc2305_promises.proofs.Events.{is-off, by-taken}
 
 -- ramping as after n ticks more

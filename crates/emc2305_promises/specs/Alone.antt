@@ -23,7 +23,8 @@ use Rattle.emc2305_chip.specs.Registers.{fedChip}
 use Rattle.emc2305.specs.Transfers.{byteWritten, byteRead}
 use Rattle.emc2305.specs.Traffic.{byteStoresTo}
 use Rattle.emc2305.specs.Promises.{butStatus}
-use Rattle.emc2305_promises.specs.Ramp.{Handed, next, isTaken, afterAll, throughout, fanOf, watchOff}
+use Rattle.walks.specs.Sequence.{Handed}
+use Rattle.emc2305_promises.specs.Ramp.{next, isTaken, afterAll, throughout, fanOf, watchOff}
 
 -- what reaches a fan: a tick, a sample, a wish, a stored byte at an offset, a read that clears a status bit of every fan
 pub data Own : Type 0 where

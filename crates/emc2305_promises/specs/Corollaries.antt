@@ -17,7 +17,8 @@ use Rattle.emc2305_fan.specs.Promises.{updatesTo}
 use Rattle.emc2305_watchdog.specs.Watch.{isOff}
 use Rattle.emc2305_chip.specs.declared.Chip.{Chip}
 use Rattle.emc2305_chip.specs.Ticks.{chipTicked}
-use Rattle.emc2305_promises.specs.Ramp.{Handed, next, isTaken, afterAll, throughout, takenTicks, fanOf, undisturbed, Ramping}
+use Rattle.walks.specs.Sequence.{Handed}
+use Rattle.emc2305_promises.specs.Ramp.{next, isTaken, afterAll, throughout, takenTicks, fanOf, undisturbed, Ramping}
 
 -- an event that is refused meets every condition, where the watch is off
 abbrev pub RefusedMeets : Type 0

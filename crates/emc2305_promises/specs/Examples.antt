@@ -18,7 +18,8 @@ use Rattle.emc2305_fan.specs.Promises.{afterUpdates, driveAfter}
 use Rattle.emc2305_chip.specs.declared.Chip.{Chip}
 use Rattle.emc2305_chip.specs.Registers.{unpowered, shownAt}
 use Rattle.emc2305_chip.specs.Promises.{allDefaults, shownBelow}
-use Rattle.emc2305_promises.specs.Ramp.{Handed, afterAll}
+use Rattle.walks.specs.Sequence.{Handed}
+use Rattle.emc2305_promises.specs.Ramp.{afterAll}
 
 -- the figures at 0 to n - 1
 abbrev pub firsts : ℕ → (ℕ → ℕ) → List ℕ

@@ -1,49 +1,41 @@
 -- Demand 3, the ramp promise: a fan's drive after any events.
 use mathlib.Core.Path.{_≡_}
-use mathlib.Core.Bool.{Bool, true, false, cond, not, _&&_}
-use mathlib.Core.List.{List, [], _∷_}
+use mathlib.Core.Bool.{Bool, true, false, not, _&&_}
+use mathlib.Core.List.{List}
 use Prim.Native.Nat.{ℕ, _+_, _*_, _/_, _%_, _<_}
 use lib.Dec.{eqb}
-use Rattle.eventlog.specs.declared.Event.{Event}
-use Rattle.eventlog.specs.Kinds.{isPowerOn, ticksOf}
+use Rattle.eventlog.specs.Kinds.{isPowerOn}
 use Rattle.emc2305_fan.specs.declared.Fan.{Fan}
 use Rattle.emc2305_fan.specs.Ramp.{moved}
 use Rattle.emc2305_fan.specs.Drive.{goal, underRamp, step, period}
 use Rattle.emc2305_watchdog.specs.Watch.{isOff}
 use Rattle.emc2305_chip.specs.declared.Chip.{Chip}
 use Rattle.emc2305_chip.specs.Fans.{fanAt}
-use Rattle.emc2305.specs.Step.{stepped}
 use Rattle.emc2305.specs.Traffic.{storesTo, isSample, isWishFor}
-use Rattle.emc2305.specs.Promises.{after}
+use Rattle.walks.specs.Sequence.{Handed}
+use Rattle.walks.specs.Sequence as any
+use Rattle.emc2305_run.specs.Device.{emc2305}
 
--- an event with the log and the reply buffer lent to its step; of the buffer only the length counts
-pub record Handed : Type 0 where
-  pub log : List ℕ
-  pub event : Event
-  pub room : ℕ
-
--- the chip after it
+-- a sequence of events on the EMC2305, each with the log and the room for a reply that are lent to its step (Sequence.antt of `walks`, for any device)
+-- the chip after an event
 abbrev pub next : Handed → Chip → Chip
-next h c = after (h .log) (h .event) (h .room) c
+next = any.next emc2305
 
 -- it is taken: its number is 0
 abbrev pub isTaken : Handed → Chip → Bool
-isTaken h c = eqb (stepped c (h .log) (h .event) (h .room) .number) 0
+isTaken = any.isTaken emc2305
 
 -- the chip after a sequence of events
-unfoldable pub afterAll : List Handed → Chip → Chip
-afterAll [] c = c
-afterAll (h ∷ rest) c = afterAll rest (next h c)
+abbrev pub afterAll : List Handed → Chip → Chip
+afterAll = any.afterAll emc2305
 
 -- a rule holds at each event of a sequence, in the chip that the event meets
-unfoldable pub throughout : (Handed → Chip → Bool) → List Handed → Chip → Bool
-throughout rule [] c = true
-throughout rule (h ∷ rest) c = rule h c && throughout rule rest (next h c)
+abbrev pub throughout : (Handed → Chip → Bool) → List Handed → Chip → Bool
+throughout = any.throughout emc2305
 
 -- t: the ticks of the tick events that are taken
-unfoldable pub takenTicks : List Handed → Chip → ℕ
-takenTicks [] c = 0
-takenTicks (h ∷ rest) c = cond (isTaken h c) (ticksOf (h .event)) 0 + takenTicks rest (next h c)
+abbrev pub takenTicks : List Handed → Chip → ℕ
+takenTicks = any.takenTicks emc2305
 
 -- fan i + 1
 abbrev pub fanOf : ℕ → Chip → Fan

@@ -9,7 +9,7 @@ use lib.Seq.{length-take-le}
 use Rattle.emc2305_chip.specs.declared.Chip.{Chip}
 use Rattle.emc2305_listing.specs.declared.Listed.{Listed}
 use Rattle.emc2305_listing.specs.Window.{listed, outAfter}
-use Rattle.emc2305_listing.proofs.Buffers.{kept}
+use Rattle.emc2305_listing.proofs.Promises.{kept}
 
 module _ (c : Chip) (first : ℕ) (window : List ℕ) (ended : Bool) (out last : List ℕ) (answer : Listed)
     (is : answer ≡ listed c first window ended (length out)) (lays : last ≡ outAfter c first window ended out) where

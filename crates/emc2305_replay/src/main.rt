@@ -1,9 +1,9 @@
 // Lists the log on standard input: a line for each record, and a last one (document 01, 'Numbers given back').
 use emc2305_chip::Chip;
-use emc2305_listing::Wants;
 use libc::EINTR;
 use libc::STDIN_FILENO;
 use libc::STDOUT_FILENO;
+use windows::Wants;
 ghost use Prim.Native.Nat.{_+_, _≤_};
 ghost use lib.ListN.{length};
 

@@ -1,5 +1,2 @@
-pub mod AllRecords
-pub mod Walks
-pub mod Loops
-pub mod Ends
-pub mod Rooms
+pub mod Steps
+pub mod Promises

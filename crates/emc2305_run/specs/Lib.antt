@@ -1,3 +1,3 @@
-pub mod Records
+pub mod Device
 pub mod Run
 pub mod Promises

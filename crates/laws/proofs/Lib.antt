@@ -1,4 +1,5 @@
 pub mod Buffer
+pub mod Laid
 pub mod Cases
 pub mod Tests
 pub mod Repeat

@@ -1,18 +1,17 @@
 -- A text laid whole or not at all, and in what is left of a buffer.
 use mathlib.Core.Path.{_≡_, refl, sym, ap, _∙_}
 use mathlib.Core.Bool.{true, false}
-use mathlib.Core.List.{List, [], _∷_, _++_, append-nil}
+use mathlib.Core.List.{List, [], _∷_, _++_}
 use Prim.Native.Nat.{ℕ, _+_, _≤_, _<_}
 use native.Mathlib.Omega.{arith}
 use lib.Dec.{leb}
 use lib.ListN.{length, set, length-set}
-use borrow.Author.Tests.{leb-true, le-leb, lt-leb}
-use Rattle.laws.specs.Buffer.{laidOver}
+use borrow.Author.Tests.{le-leb, lt-leb}
 use Rattle.laws.proofs.Buffer.{lentFrom, backFrom}
 use Rattle.laws.proofs.Tests.{by-test, leb-behind}
 use Rattle.text.specs.declared.Piece.{Piece}
 use Rattle.text.specs.Whole.{laidWhole, pieceOf}
-use Rattle.text.proofs.Texts.{Laid, byte-on, piece-on, same-length, room-left, all-laid}
+use Rattle.laws.proofs.Laid.{Laid, Fitted, byte-on, piece-on, same-length, room-left, all-laid}
 
 -- what a function has to answer of a text, and the buffer afterwards
 abbrev pub Whole : List ℕ → List ℕ → Piece → List ℕ → Type 0
@@ -34,6 +33,15 @@ module _ (text : List ℕ) (room : ℕ) (p : Piece) (is : p ≡ pieceOf text roo
   pub piece-len : leb (length text) room ≡ true → p .len ≡ length text
   piece-len t = rw (is, t) refl
 
+pub fitted : (text out : List ℕ) (p : Piece) (last : List ℕ) → p ≡ pieceOf text (length out) → last ≡ laidWhole text out
+    → Fitted text out (p .fits) (p .len) last
+fitted text out p last is lays =
+    record {
+      fits-is = piece-fits text (length out) p is;
+      len-is = by-test (leb (length text) (length out)) (λ t. rw (is, t) refl) (λ f. rw (is, f) refl);
+      lays = lays;
+    }
+
 -- one that fits is laid
 pub laid-whole : (text out : List ℕ) (p : Piece) (last : List ℕ) → Whole text out p last → length text ≤ length out → Laid out last (p .len) text
 laid-whole text out p last w h =
@@ -49,28 +57,6 @@ module _ (out₀ out : List ℕ) (laid : ℕ) (text₀ : List ℕ) (lain : Laid 
       ∙ leb-behind laid (length text) (length out₀) within
       ∙ ap (λ (n : ℕ). leb (n + length text) (length out₀)) (lain .counts)
 
-  pub more-fits : (n : ℕ) → n ≡ length text → leb (length text) (length (lentFrom laid out)) ≡ true → laid + n ≤ length out₀
-  more-fits n counts t =
-      let h : length text ≤ length (lentFrom laid out) = leb-true (length text) (length (lentFrom laid out)) t in
-      omega (arith, room-left out₀ out laid text₀ lain within)
-
-  module _ (part : List ℕ) (lays : part ≡ laidWhole text (lentFrom laid out)) where
-    pub laid-on : (n : ℕ) → n ≡ length text → leb (length text) (length (lentFrom laid out)) ≡ true
-        → Laid out₀ (backFrom laid out part) (laid + n) (text₀ ++ text)
-    laid-on n counts t = piece-on out₀ out laid text₀ lain text part n counts (lays ∙ rw t refl)
-
-    pub laid-off : leb (length text) (length (lentFrom laid out)) ≡ false → Laid out₀ (backFrom laid out part) laid text₀
-    laid-off f =
-        let p = piece-on out₀ out laid text₀ lain [] part 0 refl (lays ∙ rw f refl) in
-        record { counts = lain .counts; holds = p .holds ∙ ap (λ (t : List ℕ). laidOver t out₀) (append-nil text₀) }
-
-    -- the buffer that has come back has its length
-    pub back-length : length (backFrom laid out part) ≡ length out₀
-    back-length =
-        by-test (leb (length text) (length (lentFrom laid out)))
-        (λ t. same-length out₀ (backFrom laid out part) (laid + length text) (text₀ ++ text) (laid-on (length text) refl t) (more-fits (length text) refl t))
-        (λ f. same-length out₀ (backFrom laid out part) laid text₀ (laid-off f) within)
-
   -- by what a function answers that was lent the rest of the buffer
   module _ (p : Piece) (part : List ℕ) (says : Whole text (lentFrom laid out) p part) where
     abbrev test : p .fits ≡ leb (length text) (length (lentFrom laid out))
@@ -79,17 +65,10 @@ module _ (out₀ out : List ℕ) (laid : ℕ) (text₀ : List ℕ) (lain : Laid 
     pub says-fits : p .fits ≡ leb (length text₀ + length text) (length out₀)
     says-fits = test ∙ fits-is
 
-    pub taken-counts : p .fits ≡ true → p .len ≡ length text
-    taken-counts t = piece-len text (length (lentFrom laid out)) p (says .0) (sym test ∙ t)
-
-    pub taken-within : p .fits ≡ true → laid + p .len ≤ length out₀
-    taken-within t = more-fits (p .len) (taken-counts t) (sym test ∙ t)
-
     pub taken : p .fits ≡ true → Laid out₀ (backFrom laid out part) (laid + p .len) (text₀ ++ text)
-    taken t = laid-on part (says .1) (p .len) (taken-counts t) (sym test ∙ t)
-
-    pub left : p .fits ≡ false → Laid out₀ (backFrom laid out part) laid text₀
-    left f = laid-off part (says .1) (sym test ∙ f)
+    taken t =
+        let f = sym test ∙ t in
+        piece-on out₀ out laid text₀ lain text part (p .len) (piece-len text (length (lentFrom laid out)) p (says .0) f) (says .1 ∙ rw f refl)
 
 -- the end of a line, behind what is laid of it
 module _ (out cur : List ℕ) (at : ℕ) (done : List ℕ) (laid : Laid out cur at done) (room : at < length out) where

@@ -10,8 +10,8 @@ use Rattle.laws.proofs.Buffer.{backFrom}
 use Rattle.text.specs.Text.{lineOf, stopLine}
 use Rattle.text.proofs.Lengths.{decimal-short}
 use Rattle.text.proofs.Lines.{closing-counts}
-use Rattle.text.proofs.Texts.{Laid}
-use Rattle.text.proofs.Texts as texts
+use Rattle.laws.proofs.Laid.{Laid}
+use Rattle.laws.proofs.Laid as texts
 use Rattle.text.proofs.Wholes.{nothing, whole, laid-whole, says-fits, taken}
 use Rattle.text.proofs.closing.Statement.{statement}
 use Rattle.text.proofs.closing.Tie as tie

@@ -9,7 +9,7 @@ use Rattle.laws.proofs.Buffer.{backFrom, laid-copy}
 use Rattle.text.specs.Text.{decimal, lastLine}
 use Rattle.text.proofs.Lengths.{decimal-short}
 use Rattle.text.proofs.Lines.{last-pieces, last-counts}
-use Rattle.text.proofs.Texts.{Laid, piece-on, room-left}
+use Rattle.laws.proofs.Laid.{Laid, piece-on, room-left}
 use Rattle.text.proofs.Wholes.{nothing, end-room, end-keeps, end-whole}
 use Rattle.text.proofs.last_line.Statement.{statement}
 use Rattle.text.proofs.last_line.Tie as tie

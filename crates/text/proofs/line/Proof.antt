@@ -10,8 +10,8 @@ use Rattle.laws.proofs.Buffer.{backFrom}
 use Rattle.text.specs.Text.{decimal, hexBytes, lineOf}
 use Rattle.text.proofs.Lengths.{decimal-short, hex-length}
 use Rattle.text.proofs.Lines.{line-pieces, line-counts}
-use Rattle.text.proofs.Texts.{Laid, byte-on, piece-on, room-left}
-use Rattle.text.proofs.Texts as texts
+use Rattle.laws.proofs.Laid.{Laid, byte-on, piece-on, room-left}
+use Rattle.laws.proofs.Laid as texts
 use Rattle.text.proofs.Wholes.{nothing, end-room, end-keeps, end-whole}
 use Rattle.text.proofs.line.Statement.{statement}
 use Rattle.text.proofs.line.Tie as tie

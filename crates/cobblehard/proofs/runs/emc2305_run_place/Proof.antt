@@ -1,7 +1,7 @@
 -- `cobblehard::runs::emc2305_run_place` meets its contract.
 use mathlib.Core.Path.{ap}
 use borrow.Author.Needs.{needs}
-use Rattle.emc2305_run.specs.declared.Outcome.{Outcome}
+use Rattle.walks.specs.declared.Outcome.{Outcome}
 use Rattle.cobblehard.proofs.runs.emc2305_run_place.Statement.{statement}
 use Rattle.cobblehard.proofs.runs.emc2305_run_place.Tie as tie
 

@@ -9,8 +9,8 @@ use borrow.Author.Needs.{needs}
 use Rattle.laws.proofs.Buffer.{backFrom}
 use Rattle.text.specs.Text.{hexBytes}
 use Rattle.text.proofs.Lengths.{hex-next}
-use Rattle.text.proofs.Texts.{Laid, piece-on, room-left, all-laid}
-use Rattle.text.proofs.Texts as texts
+use Rattle.laws.proofs.Laid.{Laid, piece-on, room-left, all-laid}
+use Rattle.laws.proofs.Laid as texts
 use Rattle.text.proofs.hex.lay_bytes.Statement.{statement}
 use Rattle.text.proofs.hex.lay_bytes.Tie as tie
 

@@ -1,0 +1,3 @@
+pub mod Tellers
+pub mod Lines
+pub mod Turns

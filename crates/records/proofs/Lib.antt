@@ -1,0 +1,2 @@
+pub mod AllRecords
+pub mod Along

@@ -1,0 +1,5 @@
+pub mod Device
+pub mod Run
+pub mod Turn
+pub mod Sequence
+pub mod Promises

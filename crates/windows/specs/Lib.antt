@@ -1,0 +1,4 @@
+pub mod Teller
+pub mod Window
+pub mod Turn
+pub mod Promises
