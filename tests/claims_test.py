@@ -39,6 +39,12 @@ PAGE = "`Kept` holds; tried: `wrong`, `odd`†.\n"
 PAGES = [
     ("a page that names all", {**STATED, "page": PAGE}, 0, ["1 public functions, 0 without"]),
     ("a statement that is not named", {**STATED, "page": PAGE.replace("`Kept`", "Kept")}, 1, ["Kept is not named"]),
+    (
+        "a statement over any device that is not named",
+        {**STATED, "crates/a/specs/Any.antt": "abbrev pub InTurn : Device → Type 0\nInTurn d = Unit\n", "page": PAGE},
+        1,
+        ["InTurn is not named"],
+    ),
     ("an edit that is not named", {**STATED, "page": PAGE.replace("`wrong`", "wrong")}, 1, ["wrong.edit is not named"]),
     ("an edit that is tried apart", {**STATED, "page": PAGE.replace("†", "")}, 1, ["odd is in tried, and has no dagger"]),
     ("an edit that is not there", {**STATED, "page": PAGE + "`gone`†"}, 1, ["gone is not in"]),

@@ -12,7 +12,8 @@ import re
 import sys
 
 PUBLIC = re.compile(r'\bpub\s+(?:extern\s+"C"\s+)?fn\s+(\w+)')
-STATEMENT = re.compile(r"^abbrev pub (\w+) : Type 0$", re.MULTILINE)
+# a statement, of itself or over any device or teller
+STATEMENT = re.compile(r"^abbrev pub (\w+) : (?:(?:Device|Teller) → (?:ℕ → )?)?Type 0$", re.MULTILINE)
 DAGGER = re.compile(r"`(\w+)`†")
 PLAIN = re.compile(r"`(\w+)`(?!†)")
 CLAUSE = re.compile(r"\b(requires|ensures|ghost|decreases)\b(?:\s+\w+)?\s*\{")
