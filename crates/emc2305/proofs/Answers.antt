@@ -12,7 +12,7 @@ use Rattle.eventlog.specs.declared.Event.{Event}
 use Rattle.eventlog.specs.declared.Event.the-variants.{Transfer}
 use Rattle.eventlog.specs.Kinds.{replyLength}
 use Rattle.emc2305_chip.specs.declared.Chip.{Chip}
-use Rattle.emc2305_chip.specs.Registers.{fedChip}
+use Rattle.emc2305_chip.specs.Watching.{fedChip}
 use Rattle.emc2305.specs.Transfers.{sent, replyOf, readOut}
 use Rattle.emc2305.specs.Step.{stepNumber, taken, replyTo, stepped, replyAfter}
 

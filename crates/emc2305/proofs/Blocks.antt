@@ -19,7 +19,8 @@ use Rattle.emc2305_chip.specs.declared.Register.the-variants.{Configuration, St
 use Rattle.emc2305_chip.specs.State.{withFans, withPointer}
 use Rattle.emc2305_chip.specs.Map.{within, ownWritable, registerOf}
 use Rattle.emc2305_chip.specs.Fans.{noFan, fanAt, bitCleared}
-use Rattle.emc2305_chip.specs.Registers.{fanStores, programmedBy, fanStored, shownOf, clearedOf, storesIn, storedOf, shownAt, clearedAt, storesAt, writtenAt}
+use Rattle.emc2305_chip.specs.Watching.{programmedBy}
+use Rattle.emc2305_chip.specs.Registers.{fanStores, fanStored, shownOf, clearedOf, storesIn, storedOf, shownAt, clearedAt, storesAt, writtenAt}
 use Rattle.emc2305_chip.proofs.Maps.{ofSomeFan}
 use Rattle.emc2305_chip.proofs.Ranges.{ranges}
 use Rattle.emc2305.specs.Transfers.{pointerPast, byteWritten, byteRead}

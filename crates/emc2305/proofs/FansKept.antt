@@ -20,7 +20,8 @@ use Rattle.emc2305_chip.specs.declared.Register.{Register}
 use Rattle.emc2305_chip.specs.State.{withPointer}
 use Rattle.emc2305_chip.specs.Map.{registerOf, isOfFan}
 use Rattle.emc2305_chip.specs.Fans.{noFan, fanAt, bitCleared}
-use Rattle.emc2305_chip.specs.Registers.{atDefaults, fanStored, writtenAt, fedChip}
+use Rattle.emc2305_chip.specs.Watching.{fedChip}
+use Rattle.emc2305_chip.specs.Registers.{atDefaults, fanStored, writtenAt}
 use Rattle.emc2305_chip.proofs.Moves.{stored-keeps, written-keeps, ticks-count}
 use Rattle.emc2305.specs.Transfers.{byteWritten, inTurn, sent, readOut}
 use Rattle.emc2305.specs.Step.{taken}

@@ -29,7 +29,8 @@ use Rattle.emc2305_chip.specs.declared.Register.the-variants.{Configuration, St
 use Rattle.emc2305_chip.specs.State.{withPointer}
 use Rattle.emc2305_chip.specs.Map.{registerOf}
 use Rattle.emc2305_chip.specs.Fans.{noFan, fanAt, moveOf}
-use Rattle.emc2305_chip.specs.Registers.{shownOf, isLocked, guarded, writableIn, fanStored, shownAt, storesAt, writtenAt, fedChip}
+use Rattle.emc2305_chip.specs.Watching.{fedChip}
+use Rattle.emc2305_chip.specs.Registers.{shownOf, isLocked, guarded, writableIn, fanStored, shownAt, storesAt, writtenAt}
 use Rattle.emc2305_chip.specs.Ticks.{chipTicked}
 use Rattle.emc2305_chip.proofs.Moves.{stored-keeps, written-keeps, tickMove, tick-fans, tick-rest}
 use Rattle.emc2305.specs.Transfers.{byteWritten, inTurn, sent, readOut}

@@ -14,7 +14,7 @@ use Rattle.eventlog.specs.Kinds.{replyLength}
 use Rattle.eventlog.specs.Numbers.{fieldFault}
 use Rattle.eventlog.specs.Range.{rangeNumber}
 use Rattle.eventlog.proofs.Numbered.{range-fault}
-use Rattle.emc2305_chip.specs.Registers.{fedChip}
+use Rattle.emc2305_chip.specs.Watching.{fedChip}
 use Rattle.emc2305_chip.specs.declared.Chip.{Chip}
 use Rattle.emc2305.specs.declared.Answer.{Answer}
 use Rattle.emc2305.specs.Step.{beforePower, elsewhere, stepNumber, taken, replyTo, stepped, replyAfter}

@@ -3,7 +3,8 @@ use mathlib.Core.Path.{refl}
 use Rattle.laws.proofs.Repeat.{repeated-add}
 use Rattle.emc2305_watchdog.specs.declared.Watch.{Watch}
 use Rattle.emc2305_chip.specs.declared.Chip.{Chip}
-use Rattle.emc2305_chip.specs.Registers.{atDefaults, fedChip}
+use Rattle.emc2305_chip.specs.Watching.{fedChip}
+use Rattle.emc2305_chip.specs.Registers.{atDefaults}
 use Rattle.emc2305_chip.specs.Ticks.{chipTicked}
 use Rattle.emc2305.specs.Step.{taken, replyTo}
 use Rattle.emc2305.specs.Promises.{TickByTick, WatchAfter, TakenTransfer}

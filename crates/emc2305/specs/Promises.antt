@@ -21,7 +21,8 @@ use Rattle.emc2305_watchdog.specs.Watch.{fed}
 use Rattle.emc2305_chip.specs.declared.Chip.{Chip}
 use Rattle.emc2305_chip.specs.Map.{registerOf}
 use Rattle.emc2305_chip.specs.Fans.{fanAt}
-use Rattle.emc2305_chip.specs.Registers.{shownAt, isLocked, guarded, fedChip}
+use Rattle.emc2305_chip.specs.Watching.{fedChip}
+use Rattle.emc2305_chip.specs.Registers.{shownAt, isLocked, guarded}
 use Rattle.emc2305.specs.Transfers.{sent, byteRead, replyOf, readOut}
 use Rattle.emc2305.specs.Step.{beforePower, elsewhere, stepNumber, taken, replyTo, stepped, replyAfter}
 use Rattle.emc2305.specs.Traffic.{storesTo}

@@ -14,7 +14,8 @@ use Rattle.emc2305_fan.specs.Drive.{wished}
 use Rattle.emc2305_fan.specs.Tach.{sampled}
 use Rattle.emc2305_watchdog.specs.Watch.{inPowerUp}
 use Rattle.emc2305_chip.specs.declared.Chip.{Chip}
-use Rattle.emc2305_chip.specs.Registers.{atDefaults, onFan, fedChip}
+use Rattle.emc2305_chip.specs.Watching.{fedChip}
+use Rattle.emc2305_chip.specs.Registers.{atDefaults, onFan}
 use Rattle.emc2305_chip.specs.Ticks.{chipTicked}
 use Rattle.emc2305.specs.declared.Answer.{Answer}
 use Rattle.emc2305.specs.Transfers.{sent, replyOf, readOut}

@@ -10,19 +10,20 @@ use Rattle.eventlog.specs.Kinds.{onSample, onWish, onTransfer}
 use Rattle.emc2305_chip.specs.declared.Chip.{Chip}
 use Rattle.emc2305_chip.specs.State.{withPointer}
 use Rattle.emc2305_chip.specs.Map.{registerOf, isOfFan}
-use Rattle.emc2305_chip.specs.Registers.{storesAt, fedChip}
+use Rattle.emc2305_chip.specs.Watching.{fedChip}
+use Rattle.emc2305_chip.specs.Registers.{storesAt}
 use Rattle.emc2305.specs.Transfers.{byteWritten}
 
 -- a data byte written at the pointer is a stored write to a register of fan i + 1
 abbrev pub byteStoresTo : ℕ → Chip → Bool
 byteStoresTo i c = isOfFan i (registerOf (c .pointer)) && storesAt c (c .pointer)
 
--- so is one of the data bytes, of n in all
+-- one of the data bytes, of n in all, is a stored write to a register of fan i + 1
 unfoldable pub anyStoresTo : ℕ → ℕ → List ℕ → Chip → Bool
 anyStoresTo i n [] c = false
 anyStoresTo i n (byte ∷ rest) c = byteStoresTo i c || anyStoresTo i n rest (byteWritten n byte c)
 
--- so is one of the bytes of a write transfer, of which the first sets the pointer
+-- one of the bytes of a write transfer, of which the first sets the pointer, is such a stored write
 unfoldable pub sentStoresTo : ℕ → List ℕ → Chip → Bool
 sentStoresTo i [] c = false
 sentStoresTo i (pointer ∷ rest) c = anyStoresTo i (length rest) rest (withPointer pointer c)
@@ -32,10 +33,10 @@ abbrev pub storesTo : ℕ → List ℕ → Event → Chip → Bool
 storesTo i log event c =
     onTransfer false (λ reads to place n. cond reads false (sentStoresTo i (bytesAt log place n) (fedChip c))) event
 
--- it is a sample
+-- an event is a sample
 abbrev pub isSample : Event → Bool
 isSample = onSample false (λ fan count. true)
 
--- it is a wish for fan i + 1
+-- an event is a wish for fan i + 1
 abbrev pub isWishFor : ℕ → Event → Bool
 isWishFor i = onWish false (λ fan drive. eqb fan (i + 1))

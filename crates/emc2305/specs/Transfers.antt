@@ -13,7 +13,7 @@ use Rattle.emc2305_chip.specs.Registers.{shownAt, clearedAt, writtenAt}
 unfoldable pub pointerPast : ℕ → ℕ → ℕ
 pointerPast n pointer = cond (leb n 1) pointer ((pointer + 1) % 256)
 
--- the chip after it
+-- the chip with the pointer there
 abbrev pub passed : ℕ → Chip → Chip
 passed n c = withPointer (pointerPast n (c .pointer)) c
 

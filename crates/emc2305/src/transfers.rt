@@ -36,7 +36,7 @@ fn in_turn(mut chip: Chip, bytes: &[u8]) -> Chip
             let fan = fans[at];
             if emc2305_chip::fan_stores(fan, chip.lock, offset) {
                 fans[at] = fan.write(offset, byte);
-                chip = chip.programmed(offset, byte);
+                chip = chip.programmed_by(offset, byte);
             }
         } else if emc2305_chip::is_own_writable(pointer) {
             chip = chip.write(pointer, byte);

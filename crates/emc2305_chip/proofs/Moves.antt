@@ -21,7 +21,7 @@ use Rattle.emc2305_chip.specs.State.{withFans, withEnable, withOutputs, 
 use Rattle.emc2305_chip.specs.Map.{registerOf}
 use Rattle.emc2305_chip.specs.Fans.{moveOf}
 use Rattle.emc2305_chip.specs.Registers.{clearedOf, storesAt, storedOf, fanStored, writtenAt}
-use Rattle.emc2305_chip.specs.Ticks.{allFired, fansTicked, chipTicked}
+use Rattle.emc2305_chip.specs.Ticks.{allFired, allTicked, chipTicked}
 
 module _ {B : Type 0} (v : Chip → B) where
   -- a read, of each register
@@ -67,7 +67,7 @@ abbrev pub tickMove : Chip → Fan → Fan
 tickMove c = cond (fires (c .watch)) fired ticked
 
 pub tick-fans : (c : Chip) → chipTicked c .fans ≡ map (tickMove c) (c .fans)
-unfolding chipTicked allFired fansTicked
+unfolding chipTicked allFired allTicked
 tick-fans c = by-test (fires (c .watch)) (λ t. rw t) (λ t. rw t)
 
 -- it keeps their number, and so do n ticks
@@ -77,5 +77,5 @@ ticks-count n c =
 
 -- and 20h and EFh
 pub tick-rest : (c : Chip) → (chipTicked c .configuration ≡ c .configuration) × (chipTicked c .lock ≡ c .lock)
-unfolding chipTicked allFired fansTicked
+unfolding chipTicked allFired allTicked
 tick-rest c = by-test (fires (c .watch)) (λ t. (rw t, rw t)) (λ t. (rw t, rw t))

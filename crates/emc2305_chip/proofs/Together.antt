@@ -17,12 +17,12 @@ use Rattle.emc2305_fan.specs.Tick.{ticked, busy}
 use Rattle.emc2305_fan.proofs.Ticks.{idle}
 use Rattle.emc2305_watchdog.specs.declared.Watch.{Watch}
 use Rattle.emc2305_watchdog.specs.declared.Quiet.{Quiet}
-use Rattle.emc2305_watchdog.specs.Watch.{fires, watchTicked, quietTicks, counted, quietly}
-use Rattle.emc2305_watchdog.proofs.QuietTicks.{quiet-ticks, quiet-within, some-quiet, counted-none}
+use Rattle.emc2305_watchdog.specs.Watch.{fires, watchTicked, quietTicks, watchOn, quietly}
+use Rattle.emc2305_watchdog.proofs.QuietTicks.{quiet-ticks, quiet-within, some-quiet, watch-on-none}
 use Rattle.emc2305_chip.specs.declared.Chip.{Chip}
 use Rattle.emc2305_chip.specs.State.{withFans, withWatch}
 use Rattle.emc2305_chip.specs.Fans.{noFan, fanAt, anyBusy}
-use Rattle.emc2305_chip.specs.Ticks.{allFired, fansTicked, chipTicked, eachTicked}
+use Rattle.emc2305_chip.specs.Ticks.{allFired, allTicked, chipTicked, allTicks}
 use Rattle.emc2305_chip.proofs.Ways.{tick-fires, tick-goes}
 
 -- one fan more
@@ -40,21 +40,21 @@ none-busy fans (suc k) i e h =
 
 module _ (n : ℕ) (c : Chip) where
   -- so n ticks change nothing
-  pub all-idle : {k : ℕ} → k ≡ length (c .fans) → k ≡ 5 → anyBusy (c .fans) 5 ≡ false → c ≡ eachTicked n c
+  pub all-idle : {k : ℕ} → k ≡ length (c .fans) → k ≡ 5 → anyBusy (c .fans) 5 ≡ false → c ≡ allTicks n c
   all-idle h five e =
       ap (λ (l : List Fan). withFans l c)
       (sym (map-still (repeated n ticked) (c .fans) noFan (λ i k. idle n (fanAt (c .fans) i) (none-busy (c .fans) 5 i e (omega arith)))))
 
   -- k of the quiet ticks
-  after : (k : ℕ) → k ≤ quietTicks n (c .watch) → repeated k chipTicked c ≡ withWatch (counted k (c .watch)) (eachTicked k c)
-  unfolding repeated fansTicked
+  after : (k : ℕ) → k ≤ quietTicks n (c .watch) → repeated k chipTicked c ≡ withWatch (watchOn k (c .watch)) (allTicks k c)
+  unfolding repeated allTicked
   after zero h =
-      let e : counted 0 (c .watch) ≡ c .watch = counted-none (c .watch) in
+      let e : watchOn 0 (c .watch) ≡ c .watch = watch-on-none (c .watch) in
       let f : map (repeated 0 ticked) (c .fans) ≡ c .fans = map-id (c .fans) in
-      sym (ap (λ (w : Watch). withWatch w (eachTicked 0 c)) e ∙ ap (λ (l : List Fan). withFans l c) f)
+      sym (ap (λ (w : Watch). withWatch w (allTicks 0 c)) e ∙ ap (λ (l : List Fan). withFans l c) f)
   after (suc k) h =
       let q = quiet-ticks n k (c .watch) h in
-      let d : Chip = withWatch (counted k (c .watch)) (eachTicked k c) in
+      let d : Chip = withWatch (watchOn k (c .watch)) (allTicks k c) in
       ap chipTicked (after k (omega arith)) ∙ sym (tick-goes d (q .0)) ∙ rw (q .1, map-map ticked (repeated k ticked) (c .fans), add-one k)
 
   -- n ticks where the first makes the watchdog fire
@@ -66,7 +66,7 @@ module _ (n : ℕ) (c : Chip) where
 
   -- and where it does not: those before the one that does are taken first
   module _ (q : Quiet) (known : q ≡ quietly n (c .watch)) where
-    pub quiet-first : (d e : Chip) → e ≡ eachTicked (q .ticks) c → d ≡ withWatch (q .watch) e
+    pub quiet-first : (d e : Chip) → e ≡ allTicks (q .ticks) c → d ≡ withWatch (q .watch) e
         → repeated (n - q .ticks) chipTicked d ≡ repeated n chipTicked c
     quiet-first d e p r =
         let k = quietTicks n (c .watch) in

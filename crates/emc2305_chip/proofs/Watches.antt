@@ -12,8 +12,9 @@ use Rattle.emc2305_chip.specs.declared.Chip.{Chip}
 use Rattle.emc2305_chip.specs.declared.Register.{Register}
 use Rattle.emc2305_chip.specs.Map.{registerOf, isOfFan}
 use Rattle.emc2305_chip.specs.Fans.{noFan}
-use Rattle.emc2305_chip.specs.Registers.{programs, fanStored, storedOf}
-use Rattle.emc2305_chip.specs.Ticks.{allFired, fansTicked, chipTicked}
+use Rattle.emc2305_chip.specs.Watching.{programs}
+use Rattle.emc2305_chip.specs.Registers.{fanStored, storedOf}
+use Rattle.emc2305_chip.specs.Ticks.{allFired, allTicked, chipTicked}
 use Rattle.emc2305_chip.specs.Promises.{OneTick, WatchWrites}
 use Rattle.emc2305_chip.proofs.Maps.{by-register}
 use Rattle.emc2305_chip.proofs.Ways.{writes}
@@ -21,7 +22,7 @@ use Rattle.emc2305_chip.proofs.Moves.{written-keeps}
 use Rattle.emc2305_chip.proofs.Statuses.{fan-map}
 
 pub one-tick : OneTick
-unfolding chipTicked allFired fansTicked
+unfolding chipTicked allFired allTicked
 one-tick c = (
   refl,
   by-test (fires (c .watch)) (λ t. rw t) (λ t. rw t),

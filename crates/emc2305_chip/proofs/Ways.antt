@@ -15,7 +15,7 @@ use Rattle.emc2305_chip.specs.State.{withFans, withWatch}
 use Rattle.emc2305_chip.specs.Map.{registerOf}
 use Rattle.emc2305_chip.specs.Fans.{fanAt, interrupting}
 use Rattle.emc2305_chip.specs.Registers.{onFan, stallByte, spinByte, statusByte, alertLine, isLocked, guarded, writableIn, storesAt, storedOf, writtenAt}
-use Rattle.emc2305_chip.specs.Ticks.{allFired, fansTicked, chipTicked}
+use Rattle.emc2305_chip.specs.Ticks.{allFired, allTicked, chipTicked}
 
 -- a flag is at most its weight; and one that stands where a test fails
 pub flag-small : (b : Bool) (w x : ℕ) → x ≡ cond b w 0 → x ≤ w
@@ -53,11 +53,11 @@ module _ (c : Chip) where
   -- a tick
   pub tick-fires : fires (c .watch) ≡ true → withWatch (watchTicked (c .watch)) (allFired c) ≡ chipTicked c
   unfolding chipTicked
-  tick-fires e = ap (λ (t : Bool). withWatch (watchTicked (c .watch)) (cond t (allFired c) (fansTicked c))) (sym e)
+  tick-fires e = ap (λ (t : Bool). withWatch (watchTicked (c .watch)) (cond t (allFired c) (allTicked c))) (sym e)
 
-  pub tick-goes : fires (c .watch) ≡ false → withWatch (watchTicked (c .watch)) (fansTicked c) ≡ chipTicked c
+  pub tick-goes : fires (c .watch) ≡ false → withWatch (watchTicked (c .watch)) (allTicked c) ≡ chipTicked c
   unfolding chipTicked
-  tick-goes e = ap (λ (t : Bool). withWatch (watchTicked (c .watch)) (cond t (allFired c) (fansTicked c))) (sym e)
+  tick-goes e = ap (λ (t : Bool). withWatch (watchTicked (c .watch)) (cond t (allFired c) (allTicked c))) (sym e)
 
   -- whether a write is stored
   module _ (address : ℕ) where

@@ -27,7 +27,7 @@ abbrev pub standing : Bit → Fan → Bool
 standing Stall f = f .stalled
 standing Spin f = f .failed
 
--- a fan with one of the two cleared
+-- a fan with one of its status bits cleared
 abbrev pub bitCleared : Bit → Fan → Fan
 bitCleared Stall f = withStalled false f
 bitCleared Spin f = withFailed false f
@@ -38,10 +38,6 @@ moveOf PowerOn f = powerOn
 moveOf (Ticks n) f = repeated n ticked f
 moveOf Watchdog f = fired f
 moveOf (Clear bit) f = bitCleared bit f
-
--- each fan takes a tick of its own: no fan waits for another
-abbrev pub allTicked : List Fan → List Fan
-allTicked fans = map ticked fans
 
 -- one of the first n fans has something to do in a tick
 unfoldable pub anyBusy : List Fan → ℕ → Bool
@@ -57,7 +53,7 @@ bitsOf which fans (suc i) = bitsOf which fans i + cond (standing which (fanAt fa
 abbrev pub interrupts : ℕ → ℕ → Fan → Bool
 interrupts enable i f = bit i enable && (f .stalled || f .failed)
 
--- so of one of the first n fans
+-- one of the first n fans has such a bit
 unfoldable pub interrupting : ℕ → List Fan → ℕ → Bool
 interrupting enable fans zero = false
 interrupting enable fans (suc i) = interrupting enable fans i || interrupts enable i (fanAt fans i)

@@ -8,14 +8,14 @@ use Rattle.emc2305_fan.specs.declared.Fan.{Fan}
 use Rattle.emc2305_fan.specs.Registers.{bit, powerOn, shown, stores, locked}
 use Rattle.emc2305_fan.specs.Stored.{written}
 use Rattle.emc2305_watchdog.specs.declared.Watch.the-variants.{PowerUp}
-use Rattle.emc2305_watchdog.specs.Watch.{fed, programmed, configured}
 use Rattle.emc2305_chip.specs.declared.Chip.{Chip}
 use Rattle.emc2305_chip.specs.declared.Bit.the-variants.{Stall, Spin}
 use Rattle.emc2305_chip.specs.declared.Register.{Register}
 use Rattle.emc2305_chip.specs.declared.Register.the-variants.{Configuration, Status, StallStatus, SpinStatus, DriveFailStatus, Enable, Output, OfFan, Lock, Identity, Undefined}
-use Rattle.emc2305_chip.specs.State.{withFans, withConfiguration, withEnable, withOutputs, withLock, withExpired, withWatch}
+use Rattle.emc2305_chip.specs.State.{withFans, withConfiguration, withEnable, withOutputs, withLock, withExpired}
 use Rattle.emc2305_chip.specs.Map.{registerOf}
 use Rattle.emc2305_chip.specs.Fans.{fanAt, bitCleared, bitsOf, interrupting}
+use Rattle.emc2305_chip.specs.Watching.{programmedBy, configuredBy}
 
 -- every default, unlocked; pointer and status 0; the power-up watch starts
 unfoldable pub atDefaults : Bool → ℕ → Chip
@@ -125,25 +125,17 @@ writableIn c Undefined = false
 abbrev pub storesIn : Chip → Register → Bool
 storesIn c register = writableIn c register && not (isLocked c && guarded register)
 
--- a Setting write, or one that sets Configuration 1 bit 7
-abbrev pub programs : ℕ → ℕ → Bool
-programs offset byte = eqb offset 0x0 || (eqb offset 0x2 && bit 7 byte)
-
 -- whether a write to a fan's register is stored, under the byte of EFh
 abbrev pub fanStores : ℕ → ℕ → Fan → Bool
 fanStores lock offset f = stores f offset && not (bit 0 lock && locked offset)
-
--- a stored write that programs a fan ends the power-up watch
-abbrev pub programmedBy : ℕ → ℕ → Chip → Chip
-programmedBy offset byte c = withWatch (cond (programs offset byte) (programmed (c .watch)) (c .watch)) c
 
 -- a stored write to a fan's register
 unfoldable pub fanStored : ℕ → ℕ → ℕ → Chip → Chip
 fanStored i offset byte c = programmedBy offset byte (onFan i (written offset byte) c)
 
--- a stored write; one to 20h starts or ends the continuous watch by its bit 5, WD_EN
+-- what a stored write does
 abbrev pub storedOf : Register → ℕ → Chip → Chip
-storedOf Configuration byte c = withWatch (configured (bit 5 byte) (c .watch)) (withConfiguration byte c)
+storedOf Configuration byte c = configuredBy byte (withConfiguration byte c)
 storedOf Status byte c = c
 storedOf StallStatus byte c = c
 storedOf SpinStatus byte c = c
@@ -159,7 +151,7 @@ storedOf Undefined byte c = c
 unfoldable pub shownAt : Chip → ℕ → ℕ
 shownAt c address = shownOf c (registerOf address)
 
--- the chip that it leaves
+-- the chip that a read of an address leaves
 unfoldable pub clearedAt : ℕ → Chip → Chip
 clearedAt address c = clearedOf (registerOf address) c
 
@@ -170,7 +162,3 @@ storesAt c address = storesIn c (registerOf address)
 -- a write to an address; one that is not stored changes nothing here
 unfoldable pub writtenAt : ℕ → ℕ → Chip → Chip
 writtenAt address byte c = cond (storesAt c address) (storedOf (registerOf address) byte c) c
-
--- in continuous, each transfer taken sets the count to 0
-abbrev pub fedChip : Chip → Chip
-fedChip c = withWatch (fed (c .watch)) c

@@ -12,33 +12,33 @@ ghost use Rattle.emc2305_chip.specs.Fans.{bitCleared, moveOf, standing, 
 // The weights of the bits for fans 1 to 5.
 const WEIGHTS: [u8; 5] = [0x01, 0x02, 0x04, 0x08, 0x10];
 
-// Each fan moved.
+// What happens to all fans alike, fan by fan.
 pub(crate) fn each(mut fans: [Fan; 5], what: Move) -> [Fan; 5]
     ensures { λ r. ⌜ r ≡ map (moveOf what) fans ⌝ }
 {
     let mut i = 0;
     while i < FANS {
         let fan = fans[i];
-        fans[i] = moved(fan, what);
+        fans[i] = move_of(fan, what);
         i += 1;
     }
     fans
 }
 
-// One fan moved.
-fn moved(fan: Fan, what: Move) -> Fan
+// The same to one fan.
+fn move_of(fan: Fan, what: Move) -> Fan
     ensures { λ r. ⌜ r ≡ moveOf what fan ⌝ }
 {
     match what {
-        Move::PowerOn => Fan::reset(),
+        Move::PowerOn => Fan::power_on(),
         Move::Ticks(count) => fan.ticks(count),
-        Move::Watchdog => fan.watchdog(),
-        Move::Clear(bit) => cleared(fan, bit),
+        Move::Watchdog => fan.fired(),
+        Move::Clear(bit) => bit_cleared(fan, bit),
     }
 }
 
 // Whether a fan has something to do in a tick.
-pub(crate) fn busy(fans: [Fan; 5]) -> bool
+pub(crate) fn any_busy(fans: [Fan; 5]) -> bool
     ensures { λ r. ⌜ r ≡ anyBusy fans 5 ⌝ }
 {
     let mut on = false;
@@ -52,7 +52,7 @@ pub(crate) fn busy(fans: [Fan; 5]) -> bool
 }
 
 // A fan with one of its bits cleared.
-fn cleared(mut fan: Fan, bit: Bit) -> Fan
+fn bit_cleared(mut fan: Fan, bit: Bit) -> Fan
     ensures { λ r. ⌜ r ≡ bitCleared bit fan ⌝ }
 {
     match bit {
@@ -67,8 +67,8 @@ fn cleared(mut fan: Fan, bit: Bit) -> Fan
     }
 }
 
-// Whether the bit stands.
-fn stands(fan: Fan, bit: Bit) -> bool
+// Whether a status bit of the fan stands.
+fn standing(fan: Fan, bit: Bit) -> bool
     ensures { λ r. ⌜ r ≡ standing bit fan ⌝ }
 {
     match bit {
@@ -78,14 +78,14 @@ fn stands(fan: Fan, bit: Bit) -> bool
 }
 
 // 25h or 26h: bit i - 1 for fan i.
-pub(crate) fn status_byte(fans: [Fan; 5], bit: Bit) -> u8
+pub(crate) fn bits_of(fans: [Fan; 5], bit: Bit) -> u8
     ensures { λ r. ⌜ r ≡ bitsOf bit fans 5 ⌝ }
 {
     let mut byte: u8 = 0;
     let mut i = 0;
     while i < FANS {
         let fan = fans[i];
-        byte = byte + weighed(stands(fan, bit), i);
+        byte = byte + weighed(standing(fan, bit), i);
         i += 1;
     }
     byte

@@ -5,6 +5,7 @@ mod one_fan;
 mod registers;
 mod status;
 mod ticks;
+mod watching;
 
 use emc2305_fan::Fan;
 use emc2305_watchdog::Watch;
@@ -18,7 +19,7 @@ ghost use mathlib.Core.Path.{_≡_};
 ghost use mathlib.Core.Bool.{true};
 ghost use Prim.Native.Nat.{_<_};
 ghost use lib.ListN.{set};
-ghost use Rattle.emc2305_chip.specs.State.{withFans, withWatch};
+ghost use Rattle.emc2305_chip.specs.State.{withFans};
 ghost use Rattle.emc2305_chip.specs.Fans.{fanAt};
 ghost use Rattle.emc2305_chip.specs.Registers.{atDefaults, unpowered};
 
@@ -96,7 +97,7 @@ impl Chip {
     fn at_defaults(powered: bool, address: u8) -> Chip
         ensures { λ r. ⌜ r ≡ atDefaults powered address ⌝ }
     {
-        let fan = Fan::reset();
+        let fan = Fan::power_on();
         // From `each`, so that the compiler does not spread the defaults' bytes over every step.
         let fans = fans::each([fan; 5], Move::PowerOn);
         Chip {
@@ -111,13 +112,6 @@ impl Chip {
             expired: false,
             watch: Watch::PowerUp(0),
         }
-    }
-
-    // The chip with another watch.
-    pub(crate) fn with_watch(self, watch: Watch) -> Chip
-        ensures { λ r. ⌜ r ≡ withWatch watch self ⌝ }
-    {
-        Chip { watch, ..self }
     }
 
     // The chip with other fans.

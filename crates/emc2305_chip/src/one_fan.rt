@@ -1,11 +1,11 @@
-// What an event does to one fan, or to the watch.
+// What an event does to one fan.
 use crate::Chip;
 use crate::FANS;
 ghost use mathlib.Core.Path.{_≡_};
 ghost use Rattle.emc2305_fan.specs.Drive.{wished};
 ghost use Rattle.emc2305_fan.specs.Tach.{sampled};
 ghost use Rattle.emc2305_watchdog.specs.Watch.{inPowerUp};
-ghost use Rattle.emc2305_chip.specs.Registers.{onFan, fedChip};
+ghost use Rattle.emc2305_chip.specs.Registers.{onFan};
 
 impl Chip {
     // A tach sample of fan i + 1. There are five: past them it does nothing.
@@ -20,7 +20,7 @@ impl Chip {
         }
     }
 
-    // A loop wish for fan i + 1, likewise.
+    // A loop wish for fan i + 1; past the five it does nothing.
     pub fn wish(self, i: usize, drive: u8) -> Chip
         ensures { λ r. ⌜ r ≡ onFan i (wished drive) self ⌝ }
     {
@@ -29,13 +29,5 @@ impl Chip {
         } else {
             self
         }
-    }
-
-    // A transfer taken feeds the continuous watch.
-    pub fn fed(self) -> Chip
-        ensures { λ r. ⌜ r ≡ fedChip self ⌝ }
-    {
-        let watch = self.watch;
-        self.with_watch(watch.fed())
     }
 }

@@ -5,30 +5,23 @@ use crate::Move;
 use crate::Register;
 use crate::fans;
 use crate::map;
-use emc2305_fan::CONFIGURATION_1;
 use emc2305_fan::Fan;
-use emc2305_fan::SETTING;
 ghost use mathlib.Core.Path.{_≡_};
 ghost use mathlib.Core.Bool.{_&&_};
 ghost use mathlib.Core.List.{map};
 ghost use Prim.Native.Nat.{_<_};
 ghost use lib.ListN.{getD, set};
 ghost use Rattle.emc2305_fan.specs.Registers.{bit, locked};
-ghost use Rattle.emc2305_chip.specs.declared.Register.the-variants.{Configuration};
 ghost use Rattle.emc2305_chip.specs.State.{withFans, withOutputs};
 ghost use Rattle.emc2305_chip.specs.Map.{registerOf};
 ghost use Rattle.emc2305_chip.specs.Fans.{bitCleared};
-ghost use Rattle.emc2305_chip.specs.Registers.{identity, shownAt, clearedAt, isLocked, guarded, writableIn, storesAt, fanStores, programs, programmedBy, fanStored, storedOf, writtenAt};
+ghost use Rattle.emc2305_chip.specs.Registers.{identity, shownAt, clearedAt, isLocked, guarded, writableIn, storesAt, fanStores, fanStored, storedOf, writtenAt};
 
 // The identity bytes, from FCh on: product features, product, manufacturer, revision.
 const IDENTITY: [u8; 4] = [0x00, 0x34, 0x5D, 0x80];
 
-// Weights: bit 0 of EFh, Configuration 1 bit 7 of a fan, WD_EN of 20h.
+// The weight of bit 0 of EFh.
 const LOCKED: u8 = 0x01;
-
-const LOOP: u8 = 0x80;
-
-const WD_EN: u8 = 0x20;
 
 impl Chip {
     // What a read of the register at the address shows.
@@ -50,7 +43,7 @@ impl Chip {
         }
     }
 
-    // What the read leaves.
+    // The chip that a read of the register at the address leaves.
     pub fn cleared(mut self, address: u8) -> Chip
         ensures { λ r. ⌜ r ≡ clearedAt address self ⌝ }
     {
@@ -111,7 +104,7 @@ impl Chip {
         ensures { λ r. ⌜ r ≡ withFans (map (bitCleared bit) (self .fans)) self ⌝ }
     {
         let all = self.fans;
-        if fans::status_byte(all, bit) == 0 {
+        if fans::bits_of(all, bit) == 0 {
             self
         } else {
             self.with_fans(fans::each(all, Move::Clear(bit)))
@@ -138,7 +131,10 @@ impl Chip {
         ensures { λ r. ⌜ r ≡ storedOf (registerOf address) byte self ⌝ }
     {
         match map::register_of(address) {
-            Register::Configuration => self.configured(byte),
+            Register::Configuration => {
+                self.configuration = byte;
+                self.configured_by(byte)
+            }
             Register::Enable => {
                 self.enable = byte;
                 self
@@ -154,34 +150,13 @@ impl Chip {
         }
     }
 
-    // A stored write to 20h: WD_EN starts or ends the continuous watch.
-    fn configured(mut self, byte: u8) -> Chip
-        ensures { λ r. ⌜ r ≡ storedOf Configuration byte self ⌝ }
-    {
-        self.configuration = byte;
-        let watch = self.watch;
-        self.with_watch(watch.configured(byte / WD_EN % 2 == 1))
-    }
-
     // A stored write to a fan's register; one that programs the fan ends the power-up watch.
     fn fan_stored(self, i: usize, offset: usize, byte: u8) -> Chip
         requires { ⌜ i < 5 ⌝ }
         ensures { λ r. ⌜ r ≡ fanStored i offset byte self ⌝ }
     {
         self.with_fan(i, self.fan(i).write(offset, byte))
-            .programmed(offset, byte)
-    }
-
-    // What such a write does to the watch.
-    pub fn programmed(self, offset: usize, byte: u8) -> Chip
-        ensures { λ r. ⌜ r ≡ programmedBy offset byte self ⌝ }
-    {
-        if programs(offset, byte) {
-            let watch = self.watch;
-            self.with_watch(watch.programmed())
-        } else {
-            self
-        }
+            .programmed_by(offset, byte)
     }
 
     // 2Ah to 2Dh, by the place from 2Ah on.
@@ -193,7 +168,7 @@ impl Chip {
         outputs[i]
     }
 
-    // One of them changed.
+    // One of 2Ah to 2Dh changed.
     fn with_output(mut self, i: usize, byte: u8) -> Chip
         requires { ⌜ i < 4 ⌝ }
         ensures { λ r. ⌜ r ≡ withOutputs (set (self .outputs) i byte) self ⌝ }
@@ -236,7 +211,7 @@ pub fn fan_stores(fan: Fan, lock: u8, offset: usize) -> bool
     }
 }
 
-// Whether that byte locks, and the lock guards the offset.
+// Whether the byte of EFh locks, and the lock guards the offset.
 fn lock_forbids(lock: u8, offset: usize) -> bool
     ensures { λ r. ⌜ r ≡ (bit 0 lock && locked offset) ⌝ }
 {
@@ -244,16 +219,5 @@ fn lock_forbids(lock: u8, offset: usize) -> bool
         emc2305_fan::is_locked(offset)
     } else {
         false
-    }
-}
-
-// A Setting write, or one that sets Configuration 1 bit 7.
-fn programs(offset: usize, byte: u8) -> bool
-    ensures { λ r. ⌜ r ≡ programs offset byte ⌝ }
-{
-    match offset {
-        SETTING => true,
-        CONFIGURATION_1 => byte / LOOP % 2 == 1,
-        _ => false,
     }
 }

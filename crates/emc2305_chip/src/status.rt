@@ -16,20 +16,20 @@ const ANY_STALL: u8 = 0x01;
 const MASK: u8 = 0x80;
 
 impl Chip {
-    // 25h.
+    // The byte of 25h.
     pub(crate) fn stall_byte(self) -> u8
         ensures { λ r. ⌜ r ≡ stallByte self ⌝ }
     {
         let all = self.fans;
-        fans::status_byte(all, Bit::Stall)
+        fans::bits_of(all, Bit::Stall)
     }
 
-    // 26h.
+    // The byte of 26h.
     pub(crate) fn spin_byte(self) -> u8
         ensures { λ r. ⌜ r ≡ spinByte self ⌝ }
     {
         let all = self.fans;
-        fans::status_byte(all, Bit::Spin)
+        fans::bits_of(all, Bit::Spin)
     }
 
     // 24h: WATCH, any of 26h, any of 25h.

@@ -4,7 +4,7 @@ use crate::Move;
 use crate::fans;
 ghost use mathlib.Core.Path.{_≡_};
 ghost use Rattle.laws.specs.Repeat.{repeated};
-ghost use Rattle.emc2305_chip.specs.Ticks.{allFired, chipTicked, eachTicked};
+ghost use Rattle.emc2305_chip.specs.Ticks.{allFired, chipTicked, allTicks};
 
 impl Chip {
     // So many ticks, one after the other. Those in which the watchdog does not fire are taken together.
@@ -16,12 +16,12 @@ impl Chip {
         while left > 0 {
             let watch = chip.watch;
             if watch.fires() {
-                chip = chip.fired().with_watch(watch.tick());
+                chip = chip.all_fired().with_watch(watch.tick());
                 left -= 1;
             } else {
                 let quiet = watch.quiet(left);
                 let next = quiet.watch;
-                chip = chip.fans_ticked(quiet.ticks).with_watch(next);
+                chip = chip.all_ticks(quiet.ticks).with_watch(next);
                 left -= quiet.ticks;
             }
         }
@@ -29,7 +29,7 @@ impl Chip {
     }
 
     // The watchdog fires.
-    fn fired(mut self) -> Chip
+    fn all_fired(mut self) -> Chip
         ensures { λ r. ⌜ r ≡ allFired self ⌝ }
     {
         let all = self.fans;
@@ -38,11 +38,11 @@ impl Chip {
     }
 
     // Each fan takes so many ticks of its own; where none has anything to do, nothing changes.
-    fn fans_ticked(self, count: u16) -> Chip
-        ensures { λ r. ⌜ r ≡ eachTicked count self ⌝ }
+    fn all_ticks(self, count: u16) -> Chip
+        ensures { λ r. ⌜ r ≡ allTicks count self ⌝ }
     {
         let all = self.fans;
-        if fans::busy(all) {
+        if fans::any_busy(all) {
             self.with_fans(fans::each(all, Move::Ticks(count)))
         } else {
             self

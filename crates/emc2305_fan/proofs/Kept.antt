@@ -8,7 +8,7 @@ use Rattle.emc2305_fan.specs.declared.Fan.{Fan}
 use Rattle.emc2305_fan.specs.Registers.{closedLoop, stores}
 use Rattle.emc2305_fan.specs.Drive.{goal, underRamp, period, wished}
 use Rattle.emc2305_fan.specs.Spin.{started, tooSlow, spinFailed, spinOver, lastTick, spinTick}
-use Rattle.emc2305_fan.specs.Tick.{updated, counted, ticked}
+use Rattle.emc2305_fan.specs.Tick.{updated, clockTicked, ticked}
 use Rattle.emc2305_fan.specs.Stored.{put, wishTaken, clearsClock, clockSet, spinStarts, settled, written}
 use Rattle.emc2305_fan.specs.Tach.{withReading, judged, stall, sampled, fired}
 use Rattle.emc2305_fan.specs.Promises.{RegistersAfter}
@@ -26,14 +26,14 @@ of-spin-tick : (f : Fan) → spinTick f .registers ≡ f .registers
 unfolding spinTick
 of-spin-tick f = by-test (lastTick (f .spin)) (λ t. rw t (of-over f)) (λ t. rw t)
 
-of-counted : (f : Fan) → counted f .registers ≡ f .registers
-unfolding counted updated
-of-counted f = by-test (leb (period f) (f .clock + 1)) (λ t. rw t) (λ t. rw t)
+of-clock-ticked : (f : Fan) → clockTicked f .registers ≡ f .registers
+unfolding clockTicked updated
+of-clock-ticked f = by-test (leb (period f) (f .clock + 1)) (λ t. rw t) (λ t. rw t)
 
 of-tick : (f : Fan) → ticked f .registers ≡ f .registers
 of-tick f =
     by-test (f .spin .running) (λ t. rw (ticks-spin f t) (of-spin-tick f))
-    (λ t. by-test (underRamp f) (λ u. rw (ticks-ramp f t u) (of-counted f)) (λ u. rw (ticks-still f t u)))
+    (λ t. by-test (underRamp f) (λ u. rw (ticks-ramp f t u) (of-clock-ticked f)) (λ u. rw (ticks-still f t u)))
 
 of-wish : (f : Fan) (wish : ℕ) → wished wish f .registers ≡ f .registers
 unfolding wished

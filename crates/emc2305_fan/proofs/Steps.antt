@@ -9,18 +9,18 @@ use Rattle.emc2305_fan.specs.State.{withDrive, withClock}
 use Rattle.emc2305_fan.specs.Registers.{bit, configuration2, closedLoop, stores}
 use Rattle.emc2305_fan.specs.Drive.{driverOff, goal, underRamp, period}
 use Rattle.emc2305_fan.specs.Spin.{inSpin, spinOn, started, ended, tooSlow, spinOver, spinTick}
-use Rattle.emc2305_fan.specs.Tick.{updated, counted, ticked}
+use Rattle.emc2305_fan.specs.Tick.{updated, clockTicked, ticked}
 use Rattle.emc2305_fan.specs.Stored.{put, wishTaken, clockSet, spinHeld, spinStarts, driveSet, settled, written}
 use Rattle.emc2305_fan.specs.Tach.{judged, stall, judgedStall}
 
 -- a counted tick below the period waits
-pub waits : (f : Fan) → f .clock + 1 < period f → counted f ≡ withClock (f .clock + 1) f
-unfolding counted
+pub waits : (f : Fan) → f .clock + 1 < period f → clockTicked f ≡ withClock (f .clock + 1) f
+unfolding clockTicked
 waits f h = rw (lt-leb (period f) (f .clock + 1) h)
 
 -- at or past the period it acts
-pub acts : (f : Fan) → period f ≤ f .clock + 1 → counted f ≡ updated f
-unfolding counted
+pub acts : (f : Fan) → period f ≤ f .clock + 1 → clockTicked f ≡ updated f
+unfolding clockTicked
 acts f h = rw (le-leb (period f) (f .clock + 1) h)
 
 -- a spin-up goes on before its last tick
@@ -41,18 +41,18 @@ ramp-closed f e = ap (λ (t : Bool). cond t (not (driverOff f)) (bit 6 (configur
 -- a tick in spin-up
 pub ticks-spin : (f : Fan) → f .spin .running ≡ true → ticked f ≡ spinTick f
 unfolding ticked
-ticks-spin f e = ap (λ (t : Bool). cond t (spinTick f) (cond (underRamp f) (counted f) f)) e
+ticks-spin f e = ap (λ (t : Bool). cond t (spinTick f) (cond (underRamp f) (clockTicked f) f)) e
 
 -- a tick out of spin-up
-ticks-out : (f : Fan) → f .spin .running ≡ false → ticked f ≡ cond (underRamp f) (counted f) f
+ticks-out : (f : Fan) → f .spin .running ≡ false → ticked f ≡ cond (underRamp f) (clockTicked f) f
 unfolding ticked
-ticks-out f e = ap (λ (t : Bool). cond t (spinTick f) (cond (underRamp f) (counted f) f)) e
+ticks-out f e = ap (λ (t : Bool). cond t (spinTick f) (cond (underRamp f) (clockTicked f) f)) e
 
-pub ticks-ramp : (f : Fan) → f .spin .running ≡ false → underRamp f ≡ true → ticked f ≡ counted f
-ticks-ramp f e r = ticks-out f e ∙ ap (λ (t : Bool). cond t (counted f) f) r
+pub ticks-ramp : (f : Fan) → f .spin .running ≡ false → underRamp f ≡ true → ticked f ≡ clockTicked f
+ticks-ramp f e r = ticks-out f e ∙ ap (λ (t : Bool). cond t (clockTicked f) f) r
 
 pub ticks-still : (f : Fan) → f .spin .running ≡ false → underRamp f ≡ false → ticked f ≡ f
-ticks-still f e r = ticks-out f e ∙ ap (λ (t : Bool). cond t (counted f) f) r
+ticks-still f e r = ticks-out f e ∙ ap (λ (t : Bool). cond t (clockTicked f) f) r
 
 -- a stored write in spin-up, and out of it
 pub settles-spin : (f : Fan) → f .spin .running ≡ true → settled f ≡ spinHeld f

@@ -15,7 +15,7 @@ use Rattle.emc2305_fan.specs.declared.Fan.{Fan}
 use Rattle.emc2305_fan.specs.State.{withDrive, withClock}
 use Rattle.emc2305_fan.specs.Ramp.{moved}
 use Rattle.emc2305_fan.specs.Drive.{goal, underRamp, step, period}
-use Rattle.emc2305_fan.specs.Tick.{updated, counted, ticked, busy}
+use Rattle.emc2305_fan.specs.Tick.{updated, clockTicked, ticked, busy}
 use Rattle.emc2305_fan.specs.Promises.{RampTicks, PastPeriod}
 use Rattle.emc2305_fan.proofs.TableRules.{period-some}
 use Rattle.emc2305_fan.proofs.Steps.{waits, acts, ticks-ramp, ticks-still}
@@ -31,7 +31,7 @@ after m f = ramped (moved (f .drive) (goal f) (step f * (m / period f))) (m % pe
 
 module _ (f : Fan) (ramp : underRamp f ≡ true) (still : f .spin .running ≡ false) where
   -- a tick is counted, whatever drive and clock are
-  counts : (d p : ℕ) → ticked (ramped d p f) ≡ counted (ramped d p f)
+  counts : (d p : ℕ) → ticked (ramped d p f) ≡ clockTicked (ramped d p f)
   unfolding underRamp
   counts d p = ticks-ramp (ramped d p f) still ramp
 
@@ -78,7 +78,7 @@ short-ticks n f ramp still h =
     ∙ rw (mod-eq-of-lt h, div-eq-of-lt h, mul-zero, stays (f .drive) (goal f))
 
 -- a clock that has acted is below its period, with ramp control and spin-up as they were
-pub acted : (f g : Fan) → underRamp f ≡ true → f .spin .running ≡ false → period f ≤ f .clock → g ≡ counted f
+pub acted : (f g : Fan) → underRamp f ≡ true → f .spin .running ≡ false → period f ≤ f .clock → g ≡ clockTicked f
     → (underRamp g ≡ true) × (g .spin .running ≡ false) × (g .clock < period g)
 unfolding updated underRamp
 acted f g ramp still h e = rw (e ∙ acts f (omega arith)) (ramp, still, period-some f)

@@ -26,7 +26,7 @@ LevelRule = (i : ℕ) → i < 8 → getD levels i 0 ≡ (30 + 5 * i) * 255 / 100
 abbrev pub updateTimes : List ℕ
 updateTimes = 100 ∷ 200 ∷ 300 ∷ 400 ∷ 500 ∷ 800 ∷ 1200 ∷ 1600 ∷ []
 
--- its spin-up times in ms
+-- the spin-up times of 002 in ms
 abbrev pub spinTimes : List ℕ
 spinTimes = 250 ∷ 500 ∷ 1000 ∷ 2000 ∷ []
 
@@ -113,7 +113,7 @@ LastDirect =
     → closedLoop f ≡ false
     → ticked f ≡ ended (cond (bit 6 (configuration2 f)) (f .spin .level) (setting f)) (withFailed (f .failed || tooSlow f) f)
 
--- and in closed loop: the high byte above Valid Count sets the 26h bit and starts again; else it ends at the level, with the driver off at 0
+-- the last tick of a spin-up, or one past it, in closed loop: the high byte above Valid Count sets the 26h bit and starts again; else it ends at the level, with the driver off at 0
 abbrev pub LastClosed : Type 0
 LastClosed =
     (f : Fan)
@@ -127,14 +127,14 @@ LastClosed =
 abbrev pub spunUp : Fan → Fan
 spunUp f = repeated (spinLength f) ticked (started f)
 
--- direct: at the level fixed at the start, or without ramp control at Setting, and the 26h bit as the reading says
+-- in direct mode it is at the level fixed at the start, or without ramp control at Setting, and the 26h bit as the reading says
 abbrev pub SpunDirect : Type 0
 SpunDirect =
     (f : Fan)
     → closedLoop f ≡ false
     → spunUp f ≡ ended (cond (bit 6 (configuration2 f)) (spinLevel f) (setting f)) (withFailed (f .failed || tooSlow f) f)
 
--- closed loop: at its start again with the 26h bit set, or at the level, with the driver off at 0
+-- in closed loop it is at its start again with the 26h bit set, or at the level, with the driver off at 0
 abbrev pub SpunClosed : Type 0
 SpunClosed =
     (f : Fan)

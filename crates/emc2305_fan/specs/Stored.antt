@@ -33,11 +33,11 @@ spinHeld f = cond (eqb (goal f) 0) (ended 0 f) f
 abbrev pub spinStarts : Fan → Bool
 spinStarts f = eqb (f .drive) 0 && ltb 0 (goal f)
 
--- what it does to the drive: it starts a spin-up, or without ramp control drive equals goal at once
+-- what the stored write does to the drive out of spin-up: it starts one, or without ramp control drive equals goal at once
 abbrev pub driveSet : Fan → Fan
 driveSet f = cond (spinStarts f) (started f) (cond (underRamp f) f (withDrive (goal f) f))
 
--- what it does, in spin-up and out of it
+-- what the stored write does to spin-up and drive, in spin-up and out of it
 unfoldable pub settled : Fan → Fan
 settled f = cond (f .spin .running) (spinHeld f) (driveSet f)
 

@@ -12,13 +12,13 @@ use Rattle.emc2305_fan.specs.Spin.{spinTick}
 unfoldable pub updated : Fan → Fan
 updated f = withDrive (moved (f .drive) (goal f) (step f)) (withClock 0 f)
 
--- a counted tick; a clock past its period acts as at the period
-unfoldable pub counted : Fan → Fan
-counted f = cond (leb (period f) (f .clock + 1)) (updated f) (withClock (f .clock + 1) f)
+-- a tick that the update clock counts; a clock past its period acts as at the period
+unfoldable pub clockTicked : Fan → Fan
+clockTicked f = cond (leb (period f) (f .clock + 1)) (updated f) (withClock (f .clock + 1) f)
 
 -- the update clock counts under ramp control and not in spin-up
 unfoldable pub ticked : Fan → Fan
-ticked f = cond (f .spin .running) (spinTick f) (cond (underRamp f) (counted f) f)
+ticked f = cond (f .spin .running) (spinTick f) (cond (underRamp f) (clockTicked f) f)
 
 -- a tick changes something: a spin-up runs, or the update clock counts
 abbrev pub busy : Fan → Bool

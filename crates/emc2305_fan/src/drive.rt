@@ -15,7 +15,7 @@ ghost use Prim.Native.Nat.{max, _<_};
 ghost use Rattle.laws.specs.Repeat.{repeated};
 ghost use Rattle.emc2305_fan.specs.Ramp.{moved};
 ghost use Rattle.emc2305_fan.specs.Drive.{driverOff, goal, underRamp, step, period, wished};
-ghost use Rattle.emc2305_fan.specs.Tick.{counted, ticked, busy};
+ghost use Rattle.emc2305_fan.specs.Tick.{clockTicked, ticked, busy};
 
 impl Fan {
     // Closed loop with target high FFh.
@@ -87,15 +87,15 @@ impl Fan {
         if self.spin.running {
             self.spin_tick()
         } else if self.under_ramp() {
-            self.counted_tick()
+            self.clock_tick()
         } else {
             self
         }
     }
 
     // A tick that the update clock counts. A clock past its period acts as at the period.
-    fn counted_tick(mut self) -> Fan
-        ensures { λ r. ⌜ r ≡ counted self ⌝ }
+    fn clock_tick(mut self) -> Fan
+        ensures { λ r. ⌜ r ≡ clockTicked self ⌝ }
     {
         // In u16, so that a clock of 255 does not overflow.
         if self.clock as u16 + 1 < self.period() as u16 {
@@ -136,14 +136,14 @@ impl Fan {
         ensures { λ r. ⌜ r ≡ repeated count ticked self ⌝ }
     {
         if self.under_ramp() {
-            self.counted_ticks(count)
+            self.clock_ticks(count)
         } else {
             self
         }
     }
 
     // So many ticks that the update clock counts. A clock past its period acts first.
-    fn counted_ticks(self, count: u16) -> Fan
+    fn clock_ticks(self, count: u16) -> Fan
         requires { ⌜ (underRamp self ≡ true) × (self .spin .running ≡ false) ⌝ }
         ensures { λ r. ⌜ r ≡ repeated count ticked self ⌝ }
     {
@@ -152,7 +152,7 @@ impl Fan {
         } else if count == 0 {
             self
         } else {
-            self.counted_tick().ramped(count - 1)
+            self.clock_tick().ramped(count - 1)
         }
     }
 

@@ -10,7 +10,7 @@ ghost use Rattle.emc2305_fan.specs.Registers.{powerOn, noSpin, shown, st
 
 impl Fan {
     // Power-on: every default, and nothing running.
-    pub fn reset() -> Fan
+    pub fn power_on() -> Fan
         ensures { λ r. ⌜ r ≡ powerOn ⌝ }
     {
         Fan {
@@ -18,7 +18,7 @@ impl Fan {
             drive: 0,
             wish: 0,
             clock: 0,
-            spin: no_spin_up(),
+            spin: no_spin(),
             stalled: false,
             failed: false,
         }
@@ -68,7 +68,7 @@ pub fn is_locked(offset: usize) -> bool
     }
 }
 
-pub(crate) fn no_spin_up() -> SpinUp
+pub(crate) fn no_spin() -> SpinUp
     ensures { λ r. ⌜ r ≡ noSpin ⌝ }
 {
     SpinUp {

@@ -33,7 +33,7 @@ impl Fan {
     }
 
     // The spin-up that the fan's Spin Up register asks for, at its start.
-    fn new_spin_up(self) -> SpinUp
+    fn spin_new(self) -> SpinUp
         ensures { λ r. ⌜ r ≡ spinNew self ⌝ }
     {
         let byte = self.registers[SPIN_UP];
@@ -50,7 +50,7 @@ impl Fan {
     pub(crate) fn start(mut self) -> Fan
         ensures { λ r. ⌜ r ≡ started self ⌝ }
     {
-        let spin = self.new_spin_up();
+        let spin = self.spin_new();
         self.drive = spin.drive();
         self.spin = spin;
         self
@@ -62,7 +62,7 @@ impl Fan {
     {
         self.drive = drive;
         self.clock = 0;
-        self.spin = registers::no_spin_up();
+        self.spin = registers::no_spin();
         self
     }
 

@@ -87,7 +87,7 @@ impl Fan {
     fn drive_set(mut self) -> Fan
         ensures { λ r. ⌜ r ≡ driveSet self ⌝ }
     {
-        if self.starts_spin_up() {
+        if self.spin_starts() {
             self.start()
         } else if self.under_ramp() {
             self
@@ -99,7 +99,7 @@ impl Fan {
     }
 
     // Drive 0 before the write, goal above 0 after it.
-    fn starts_spin_up(self) -> bool
+    fn spin_starts(self) -> bool
         ensures { λ r. ⌜ r ≡ spinStarts self ⌝ }
     {
         if self.drive == 0 {

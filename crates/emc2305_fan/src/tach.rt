@@ -59,7 +59,7 @@ impl Fan {
     }
 
     // What the watchdog does to a fan when it fires. It is no stored write.
-    pub fn watchdog(mut self) -> Fan
+    pub fn fired(mut self) -> Fan
         ensures { λ r. ⌜ r ≡ fired self ⌝ }
     {
         let configuration = self.registers[CONFIGURATION_1];

@@ -10,7 +10,7 @@ const LARGEST: usize = 18446744073709551615;
 // One command: its letter and its bytes.
 pub fn act(fan: Fan, which: u8, data: &[u8]) -> Fan {
     match which {
-        b'r' => reset(),
+        b'r' => power_on(),
         b'l' => load(data),
         b'w' => write(fan, offset(field(data, 0)), field(data, 1)),
         b't' => ticks(fan, field(data, 0)),
@@ -21,7 +21,7 @@ pub fn act(fan: Fan, which: u8, data: &[u8]) -> Fan {
             field(data, 2) != 0,
         ),
         b'v' => wish(fan, field(data, 0)),
-        b'd' => watchdog(fan),
+        b'd' => fired(fan),
         _ => tell(fan, which, data),
     }
 }
@@ -57,8 +57,8 @@ fn offset(code: u8) -> usize {
     }
 }
 
-fn reset() -> Fan {
-    let fan = Fan::reset();
+fn power_on() -> Fan {
+    let fan = Fan::power_on();
     show::text(b"reset");
     show::state(fan);
     fan
@@ -162,8 +162,8 @@ fn wish(fan: Fan, drive: u8) -> Fan {
     next
 }
 
-fn watchdog(fan: Fan) -> Fan {
-    let next = fan.watchdog();
+fn fired(fan: Fan) -> Fan {
+    let next = fan.fired();
     show::text(b"watchdog");
     show::state(next);
     next

@@ -17,7 +17,7 @@ fn main() {
 
 // A command is a byte that says which, a byte n, and n bytes. Each acts on the fan that the one before it left.
 fn run(input: &[u8]) {
-    let mut fan = Fan::reset();
+    let mut fan = Fan::power_on();
     let mut at = 0;
     for _ in 0..input.len() {
         if input.len() - at < 2 {

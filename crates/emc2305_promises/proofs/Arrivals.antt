@@ -16,7 +16,7 @@ use Rattle.eventlog.specs.Kinds.{ticksOf}
 use Rattle.eventlog.specs.Range.{rangeNumber}
 use Rattle.emc2305_fan.specs.Ramp.{moved}
 use Rattle.emc2305_fan.specs.Drive.{underRamp, period}
-use Rattle.emc2305_fan.specs.Tick.{counted, ticked}
+use Rattle.emc2305_fan.specs.Tick.{clockTicked, ticked}
 use Rattle.emc2305_fan.proofs.Ramps.{one-update, updates, arrives}
 use Rattle.emc2305_watchdog.specs.declared.Watch.the-variants.{Off}
 use Rattle.emc2305_chip.specs.declared.Chip.{Chip}
@@ -50,7 +50,7 @@ refused-meets i h c t off =
     simp (t, e, off, same, never (f .spin .running), and-false (isWishFor i (h .event)), and-false (isSample (h .event))))
 
 pub update-ticks : UpdateTicks
-unfolding ticked counted underRamp
+unfolding ticked clockTicked underRamp
 update-ticks f =
     by-test (f .spin .running)
     (λ e. (λ a. absurd (false≢true (and-left false false (and-right (underRamp f) false (rw e at a)))), λ n. absurd (true≢false (sym e ∙ n))))

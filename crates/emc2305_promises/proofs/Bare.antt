@@ -17,8 +17,9 @@ use Rattle.emc2305_chip.specs.declared.Register.{Register}
 use Rattle.emc2305_chip.specs.declared.Register.the-variants.{Configuration, Enable, Output, OfFan, Lock}
 use Rattle.emc2305_chip.specs.State.{withFans, withPointer}
 use Rattle.emc2305_chip.specs.Map.{registerOf}
-use Rattle.emc2305_chip.specs.Registers.{clearedOf, clearedAt, storesIn, storedOf, storesAt, writtenAt, programs, fanStored, fedChip}
-use Rattle.emc2305_chip.specs.Ticks.{allFired, fansTicked, chipTicked}
+use Rattle.emc2305_chip.specs.Watching.{programs, fedChip}
+use Rattle.emc2305_chip.specs.Registers.{clearedOf, clearedAt, storesIn, storedOf, storesAt, writtenAt, fanStored}
+use Rattle.emc2305_chip.specs.Ticks.{allFired, allTicked, chipTicked}
 use Rattle.emc2305_chip.proofs.Maps.{by-register}
 use Rattle.emc2305_chip.proofs.Moves.{stored-keeps, written-keeps}
 use Rattle.emc2305.specs.Transfers.{passed, byteWritten, inTurn, sent, byteRead}
@@ -54,7 +55,7 @@ repeated-bare zero move c h = refl
 repeated-bare (suc n) move c h = h (repeated n move c) ∙ ap move (repeated-bare n move c h)
 
 tick-bare : (c : Chip) → bare (chipTicked c) ≡ chipTicked (bare c)
-unfolding chipTicked allFired fansTicked
+unfolding chipTicked allFired allTicked
 tick-bare c = by-test (fires (c .watch)) (λ t. rw t) (λ t. rw t)
 
 passed-bare : (n : ℕ) (c : Chip) → bare (passed n c) ≡ passed n (bare c)

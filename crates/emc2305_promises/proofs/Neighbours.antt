@@ -17,7 +17,8 @@ use Rattle.emc2305_chip.specs.declared.Chip.{Chip}
 use Rattle.emc2305_chip.specs.declared.Register.{Register}
 use Rattle.emc2305_chip.specs.State.{withPointer}
 use Rattle.emc2305_chip.specs.Map.{registerOf, isOfFan}
-use Rattle.emc2305_chip.specs.Registers.{storesIn, storesAt, fedChip}
+use Rattle.emc2305_chip.specs.Watching.{fedChip}
+use Rattle.emc2305_chip.specs.Registers.{storesIn, storesAt}
 use Rattle.emc2305_chip.proofs.Maps.{by-register}
 use Rattle.emc2305.specs.Transfers.{byteWritten, byteRead}
 use Rattle.emc2305.specs.Step.{stepNumber, taken}

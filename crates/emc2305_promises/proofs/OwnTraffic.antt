@@ -18,7 +18,8 @@ use Rattle.emc2305_fan.specs.Tick.{ticked}
 use Rattle.emc2305_watchdog.specs.declared.Watch.the-variants.{Off}
 use Rattle.emc2305_watchdog.specs.Watch.{isOff}
 use Rattle.emc2305_chip.specs.declared.Chip.{Chip}
-use Rattle.emc2305_chip.specs.Registers.{atDefaults, onFan, fedChip}
+use Rattle.emc2305_chip.specs.Watching.{fedChip}
+use Rattle.emc2305_chip.specs.Registers.{atDefaults, onFan}
 use Rattle.emc2305_chip.proofs.ChipTicks.{fan-ticks}
 use Rattle.emc2305.specs.Step.{taken}
 use Rattle.emc2305.proofs.Effects.{Idle, by-effect}

@@ -10,7 +10,7 @@ use Rattle.emc2305_fan.specs.State.{withFailed}
 use Rattle.emc2305_fan.specs.Registers.{closedLoop, stores}
 use Rattle.emc2305_fan.specs.Drive.{goal, underRamp, period, wished}
 use Rattle.emc2305_fan.specs.Spin.{started, tooSlow, spinFailed, spinOver, lastTick, spinTick}
-use Rattle.emc2305_fan.specs.Tick.{updated, counted, ticked}
+use Rattle.emc2305_fan.specs.Tick.{updated, clockTicked, ticked}
 use Rattle.emc2305_fan.specs.Stored.{put, wishTaken, clearsClock, clockSet, spinStarts, settled, written}
 use Rattle.emc2305_fan.specs.Tach.{withReading, judged, stall, sampled}
 use Rattle.emc2305_fan.proofs.Steps.{ticks-spin, ticks-ramp, ticks-still}
@@ -47,16 +47,16 @@ blind-spin : Blind spinTick
 unfolding spinTick
 blind-spin f = by-test (lastTick (f .spin)) (λ t. rw t (blind-over f)) (λ t. rw t)
 
-blind-counted : Blind counted
-unfolding counted updated goal
-blind-counted f = by-test (leb (period f) (f .clock + 1)) (λ t. rw t) (λ t. rw t)
+blind-clock-ticked : Blind clockTicked
+unfolding clockTicked updated goal
+blind-clock-ticked f = by-test (leb (period f) (f .clock + 1)) (λ t. rw t) (λ t. rw t)
 
 blind-ticked : Blind ticked
 unfolding underRamp
 blind-ticked f =
     let g = butStatus f in
     by-test (f .spin .running) (λ t. rw (ticks-spin f t, ticks-spin g t) (blind-spin f))
-    (λ t. by-test (underRamp f) (λ u. rw (ticks-ramp f t u, ticks-ramp g t u) (blind-counted f)) (λ u. rw (ticks-still f t u, ticks-still g t u)))
+    (λ t. by-test (underRamp f) (λ u. rw (ticks-ramp f t u, ticks-ramp g t u) (blind-clock-ticked f)) (λ u. rw (ticks-still f t u, ticks-still g t u)))
 
 blind-stall : Blind stall
 unfolding stall started

@@ -19,7 +19,7 @@ use Rattle.emc2305_chip.specs.declared.Bit.the-variants.{Stall, Spin}
 use Rattle.emc2305_chip.specs.declared.Chip.{Chip}
 use Rattle.emc2305_chip.specs.State.{withFans, withPointer}
 use Rattle.emc2305_chip.specs.Fans.{bitCleared}
-use Rattle.emc2305_chip.specs.Registers.{fedChip}
+use Rattle.emc2305_chip.specs.Watching.{fedChip}
 use Rattle.emc2305.specs.Transfers.{byteWritten, byteRead}
 use Rattle.emc2305.specs.Traffic.{byteStoresTo}
 use Rattle.emc2305.specs.Promises.{butStatus}
@@ -34,7 +34,7 @@ pub data Own : Type 0 where
   store : ℕ → ℕ → Own
   clear : Bit → Own
 
--- what that makes of the fan; no power-up watch runs
+-- what something that reaches a fan makes of it; no power-up watch runs
 abbrev pub moveBy : Own → Fan → Fan
 moveBy tick f = ticked f
 moveBy (sample count) f = sampled count false f
@@ -42,58 +42,58 @@ moveBy (wish drive) f = wished drive f
 moveBy (store offset byte) f = written offset byte f
 moveBy (clear which) f = bitCleared which f
 
--- one after the other
+-- what all that reaches a fan makes of it, one after the other
 unfoldable pub played : List Own → Fan → Fan
 played [] f = f
 played (own ∷ rest) f = played rest (moveBy own f)
 
--- of a data byte that is written at the pointer, fan i + 1 gets it where it is stored to one of its registers
+-- what reaches fan i + 1 of a data byte that is written at the pointer: the byte, where it is stored to one of its registers
 abbrev pub ofByte : ℕ → ℕ → Chip → List Own
 ofByte i byte c = cond (byteStoresTo i c) (store (c .pointer % 16) byte ∷ []) []
 
--- of data bytes in turn, n in all
+-- what reaches it of data bytes in turn, n in all
 unfoldable pub ofBytes : ℕ → ℕ → List ℕ → Chip → List Own
 ofBytes i n [] c = []
 ofBytes i n (byte ∷ rest) c = ofByte i byte c ++ ofBytes i n rest (byteWritten n byte c)
 
--- of the bytes of a write transfer, of which the first sets the pointer
+-- what reaches it of the bytes of a write transfer, of which the first sets the pointer
 unfoldable pub ofWrite : ℕ → List ℕ → Chip → List Own
 ofWrite i [] c = []
 ofWrite i (pointer ∷ rest) c = ofBytes i (length rest) rest (withPointer pointer c)
 
--- of a byte that is read at an address: 25h and 26h clear a bit
+-- what reaches it of a byte that is read at an address: 25h and 26h clear a bit
 abbrev pub ofRead : ℕ → List Own
 ofRead address = cond (eqb address 0x25) (clear Stall ∷ []) (cond (eqb address 0x26) (clear Spin ∷ []) [])
 
--- of the first k bytes of a read transfer of n
+-- what reaches it of the first k bytes of a read transfer of n
 unfoldable pub ofReads : ℕ → ℕ → Chip → List Own
 ofReads n zero c = []
 ofReads n (suc k) c = ofReads n k c ++ ofRead (repeated k (byteRead n) c .pointer)
 
--- of ticks: each of them
+-- what reaches it of ticks: each of them
 abbrev pub ofTicks : Event → List Own
 ofTicks = onTicks [] (λ count. replicate count tick)
 
--- of a sample: one for fan i + 1
+-- what reaches fan i + 1 of a sample: one for it
 abbrev pub ofSample : ℕ → Event → List Own
 ofSample i = onSample [] (λ fan count. cond (eqb fan (i + 1)) (sample count ∷ []) [])
 
--- of a wish: one for fan i + 1
+-- what reaches fan i + 1 of a wish: one for it
 abbrev pub ofWish : ℕ → Event → List Own
 ofWish i = onWish [] (λ fan drive. cond (eqb fan (i + 1)) (wish drive ∷ []) [])
 
--- of a transfer: of its bytes, read or written
+-- what reaches it of a transfer: what its bytes bring, read or written
 abbrev pub ofTransfer : ℕ → List ℕ → Event → Chip → List Own
 ofTransfer i log event c =
     onTransfer []
     (λ reads to place n.
     cond reads (ofReads (getD log place 0) (getD log place 0) (fedChip c)) (ofWrite i (bytesAt log place n) (fedChip c))) event
 
--- of an event that is taken, whichever of these it is; a power-on starts the power-up watch, and is none of those spoken of here
+-- what reaches it of an event that is taken; a power-on starts the power-up watch, and is none of those spoken of here
 abbrev pub ofEvent : ℕ → List ℕ → Event → Chip → List Own
 ofEvent i log event c = ofTicks event ++ (ofSample i event ++ (ofWish i event ++ ofTransfer i log event c))
 
--- of a sequence: nothing of an event that is refused
+-- what reaches it of a sequence: nothing of an event that is refused
 unfoldable pub ownTraffic : ℕ → List Handed → Chip → List Own
 ownTraffic i [] c = []
 ownTraffic i (h ∷ rest) c = cond (isTaken h c) (ofEvent i (h .log) (h .event) c) [] ++ ownTraffic i rest (next h c)
@@ -127,7 +127,7 @@ butClears (wish drive ∷ rest) = wish drive ∷ butClears rest
 butClears (store offset byte ∷ rest) = store offset byte ∷ butClears rest
 butClears (clear which ∷ rest) = butClears rest
 
--- where they agree on all but these reads, they leave it the same but for its bits of 25h and 26h
+-- two sequences that agree on all of its traffic but these reads leave it the same but for its bits of 25h and 26h
 abbrev pub StatusAside : Type 0
 StatusAside =
     (i : ℕ) (c d : Chip) (events others : List Handed)

@@ -10,10 +10,9 @@ use Rattle.emc2305_fan.specs.Registers.{closedLoop}
 use Rattle.emc2305_chip.specs.declared.Chip.{Chip}
 use Rattle.emc2305_chip.specs.Registers.{unpowered}
 use Rattle.emc2305.specs.Step.{stepped}
-use Rattle.walks.specs.Run.{ended}
+use Rattle.walks.specs.Run.{ended, runOf}
 use Rattle.walks.specs.Sequence.{Handed}
 use Rattle.emc2305_run.specs.Device.{emc2305}
-use Rattle.emc2305_run.specs.Run.{runOf}
 use Rattle.emc2305_promises.specs.Ramp.{next, afterAll, throughout, takenTicks, fanOf, undisturbed, Ramping}
 use Rattle.emc2305_promises.specs.Corollaries.{updatesMade}
 use Rattle.emc2305_promises.specs.Trace.{walkAfter, part}
@@ -112,5 +111,5 @@ TraceRamp =
     × (throughout (undisturbed 1) (part trace 2 5 7) (walkAfter trace 2 5 .state) ≡ true)
     × (takenTicks (part trace 2 5 7) (walkAfter trace 2 5 .state) ≡ 90)
     × (fanOf 1 (walkAfter trace 2 12 .state) .drive ≡ 201)
-    × (runOf trace 2 .records ≡ 12)
+    × (runOf emc2305 trace 2 .records ≡ 12)
     × (ended emc2305 trace 2 .walk .replies ≡ 153 ∷ 201 ∷ [])

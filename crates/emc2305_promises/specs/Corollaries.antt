@@ -44,7 +44,7 @@ unfoldable pub updatesIn : ℕ → ℕ → Chip → ℕ
 updatesIn i zero c = 0
 updatesIn i (suc n) c = updatesIn i n c + cond (atUpdate (fanOf i (repeated n chipTicked c))) 1 0
 
--- and in the tick events of a sequence that are taken
+-- the updates of fan i + 1 in the tick events of a sequence that are taken
 unfoldable pub updatesMade : ℕ → List Handed → Chip → ℕ
 updatesMade i [] c = 0
 updatesMade i (h ∷ rest) c = cond (isTaken h c) (updatesIn i (ticksOf (h .event)) c) 0 + updatesMade i rest (next h c)

@@ -34,7 +34,7 @@ updateRow n d g s = firsts n (λ (k : ℕ). afterUpdates (k + 1) d g s)
 abbrev pub fanAt80 : Fan
 fanAt80 = written 0x0 0x80 powerOn
 
--- the same with Configuration 2 bit 6 set first
+-- the default fan, Setting 80h at drive 0, with Configuration 2 bit 6 set first
 abbrev pub rampedAt80 : Fan
 rampedAt80 = written 0x0 0x80 (written 0x3 0x68 powerOn)
 
@@ -54,7 +54,7 @@ exampleGiven event = record { log = 0xEF ∷ 0x01 ∷ 0x37 ∷ 0x20 ∷ 0x30 ∷
 abbrev pub chipAfter : List Event → Chip
 chipAfter events = afterAll (map exampleGiven (PowerOn 0x2C ∷ events)) unpowered
 
--- what registers show then
+-- what registers show after a power-on and events in turn
 abbrev pub shownAfter : List Event → List ℕ → List ℕ
 shownAfter events addresses = map (shownAt (chipAfter events)) addresses
 

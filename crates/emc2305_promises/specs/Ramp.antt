@@ -21,7 +21,7 @@ use Rattle.emc2305_run.specs.Device.{emc2305}
 abbrev pub next : Handed → Chip → Chip
 next = any.next emc2305
 
--- it is taken: its number is 0
+-- an event is taken: its number is 0
 abbrev pub isTaken : Handed → Chip → Bool
 isTaken = any.isTaken emc2305
 

@@ -13,7 +13,7 @@ use Rattle.eventlog.specs.declared.Event.{Event}
 use Rattle.eventlog.specs.Kinds.{replyLength}
 use Rattle.eventlog.specs.Numbers.{walksOn}
 use Rattle.emc2305_chip.specs.declared.Chip.{Chip}
-use Rattle.emc2305_chip.specs.Registers.{fedChip}
+use Rattle.emc2305_chip.specs.Watching.{fedChip}
 use Rattle.emc2305.specs.declared.Answer.{Answer}
 use Rattle.emc2305.specs.Step.{beforePower, elsewhere, stepNumber, replyTo, stepped, replyAfter}
 use Rattle.emc2305.proofs.Numbers.{step-numbers, numbered, refused, taken-step}

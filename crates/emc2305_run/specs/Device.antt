@@ -13,7 +13,7 @@ use Rattle.walks.specs.Device.{Device}
 abbrev pub replyGiven : Chip → List ℕ → Event → ℕ → List ℕ
 replyGiven c log event room = cond (eqb (stepped c log event room .number) 0) (replyTo log event c) []
 
--- the device
+-- the EMC2305, a device
 abbrev pub emc2305 : Device
 emc2305 =
     record {

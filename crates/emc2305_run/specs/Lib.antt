@@ -1,3 +1,2 @@
 pub mod Device
-pub mod Run
 pub mod Promises

@@ -6,7 +6,7 @@ use native.Mathlib.Omega.{arith}
 use borrow.Author.Tests.{leb-false, le-leb, lt-leb}
 use Rattle.emc2305_watchdog.specs.declared.Watch.{Watch}
 use Rattle.emc2305_watchdog.specs.declared.Watch.the-variants.{Off, PowerUp, Continuous}
-use Rattle.emc2305_watchdog.specs.Watch.{reached, fires, quietTicks, counted}
+use Rattle.emc2305_watchdog.specs.Watch.{reached, fires, quietTicks, watchOn}
 use Rattle.emc2305_watchdog.specs.Promises.{QuietTicks, FiresNext}
 
 -- a count of less than 319 goes on
@@ -44,7 +44,7 @@ some-quiet n (PowerUp count) e h = let g = leb-false 320 (count + 1) e in omega 
 some-quiet n (Continuous count) e h = let g = leb-false 320 (count + 1) e in omega arith
 
 -- no tick
-pub counted-none : (w : Watch) → counted 0 w ≡ w
-counted-none Off = refl
-counted-none (PowerUp count) = ap PowerUp (omega arith)
-counted-none (Continuous count) = ap Continuous (omega arith)
+pub watch-on-none : (w : Watch) → watchOn 0 w ≡ w
+watch-on-none Off = refl
+watch-on-none (PowerUp count) = ap PowerUp (omega arith)
+watch-on-none (Continuous count) = ap Continuous (omega arith)

@@ -66,12 +66,12 @@ quietTicks n Off = n
 quietTicks n (PowerUp count) = min n (ticksLeft count)
 quietTicks n (Continuous count) = min n (ticksLeft count)
 
--- the watch after n ticks that do not make it fire
-abbrev pub counted : ℕ → Watch → Watch
-counted n Off = Off
-counted n (PowerUp count) = PowerUp (count + n)
-counted n (Continuous count) = Continuous (count + n)
+-- the same watch n ticks on, none of which makes it fire
+abbrev pub watchOn : ℕ → Watch → Watch
+watchOn n Off = Off
+watchOn n (PowerUp count) = PowerUp (count + n)
+watchOn n (Continuous count) = Continuous (count + n)
 
--- both
+-- of the next n ticks those before the one that makes it fire, and the watch after them
 abbrev pub quietly : ℕ → Watch → Quiet
-quietly n watch = record { ticks = quietTicks n watch; watch = counted (quietTicks n watch) watch }
+quietly n watch = record { ticks = quietTicks n watch; watch = watchOn (quietTicks n watch) watch }

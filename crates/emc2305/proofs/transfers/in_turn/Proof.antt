@@ -60,8 +60,8 @@ mul-fans c = let h = in-fan (c .before .before .before .before) in omega (arith,
 array-set-from-fans : tie.Need-array-set-from-fans Inv-loop μ-loop
 array-set-from-fans c = let h = in-fan (c .before .before .before .before) in omega (arith, h .1)
 
-programmed-requires : tie.Need-programmed-requires Inv-loop μ-loop
-programmed-requires c κs = search cases
+programmed-by-requires : tie.Need-programmed-by-requires Inv-loop μ-loop
+programmed-by-requires c κs = search cases
 
 is-own-writable-requires : tie.Need-is-own-writable-requires Inv-loop μ-loop
 is-own-writable-requires c κs = search cases
@@ -143,7 +143,7 @@ in-turn-spec =
     write-requires
     mul-fans
     array-set-from-fans
-    programmed-requires
+    programmed-by-requires
     is-own-writable-requires
     write-requires-2
     pointer-past-requires

@@ -9,8 +9,8 @@ use Rattle.emc2305_chip.proofs.Bits.{none-cleared}
 use Rattle.emc2305_chip.proofs.Chip.bits_cleared.Statement.{statement}
 use Rattle.emc2305_chip.proofs.Chip.bits_cleared.Tie as tie
 
-status-byte-requires : tie.Need-status-byte-requires
-status-byte-requires c κs = search needs
+bits-of-requires : tie.Need-bits-of-requires
+bits-of-requires c κs = search needs
 
 each-requires : tie.Need-each-requires
 each-requires c κs = search needs
@@ -22,7 +22,7 @@ returns : tie.Need-returns
 returns c =
     let s = c .before .before .before in
     none-cleared (s .args .bit) (s .args .self) (length-map (s .args .self .fans) _) (s .good .0 .1 .1 .1 .1 .0 .1 .0 .1)
-    (sym (c .before .status-byte .ensures) ∙ c .if1 .taken)
+    (sym (c .before .bits-of .ensures) ∙ c .if1 .taken)
 
 returns-2 : tie.Need-returns-2
 returns-2 c =
@@ -30,4 +30,4 @@ returns-2 c =
 
 pub bits-cleared-spec : {M : Type 1} → statement M
 bits-cleared-spec =
-    tie.close (tie.spec status-byte-requires each-requires with-fans-requires returns returns-2)
+    tie.close (tie.spec bits-of-requires each-requires with-fans-requires returns returns-2)

@@ -5,7 +5,8 @@ use lib.ListN.{set}
 use Rattle.emc2305_fan.specs.declared.Fan.{Fan}
 use Rattle.emc2305_fan.specs.Stored.{written}
 use Rattle.emc2305_chip.specs.State.{withFans}
-use Rattle.emc2305_chip.specs.Registers.{programmedBy, fanStored}
+use Rattle.emc2305_chip.specs.Watching.{programmedBy}
+use Rattle.emc2305_chip.specs.Registers.{fanStored}
 use Rattle.emc2305_chip.proofs.Chip.fan_stored.Statement.{statement}
 use Rattle.emc2305_chip.proofs.Chip.fan_stored.Tie as tie
 
@@ -18,14 +19,14 @@ write-requires c κs = search needs
 with-fan-requires : tie.Need-with-fan-requires
 with-fan-requires c κs = search needs
 
-programmed-requires : tie.Need-programmed-requires
-programmed-requires c κs = search needs
+programmed-by-requires : tie.Need-programmed-by-requires
+programmed-by-requires c κs = search needs
 
 returns : tie.Need-returns
 unfolding fanStored
 returns c =
     let a = c .before .before .before .before .args in
-    c .programmed .ensures
+    c .programmed-by .ensures
     ∙ ap (programmedBy (a .offset) (a .byte))
     (c .before .with-fan .ensures
     ∙ ap (λ (f : Fan). withFans (set (a .self .fans) (a .i) f) (a .self))
@@ -34,4 +35,4 @@ returns c =
 pub fan-stored-spec : {M : Type 1} → statement M
 fan-stored-spec =
     tie.close
-    (tie.spec fan-requires write-requires with-fan-requires programmed-requires returns)
+    (tie.spec fan-requires write-requires with-fan-requires programmed-by-requires returns)

@@ -12,8 +12,8 @@ register-of-requires c κs = search needs
 enum-told : tie.Need-enum-told
 enum-told c = search needs
 
-configured-requires : tie.Need-configured-requires
-configured-requires c κs = search needs
+configured-by-requires : tie.Need-configured-by-requires
+configured-by-requires c κs = search needs
 
 enum-told-2 : tie.Need-enum-told-2
 enum-told-2 c = search needs
@@ -34,7 +34,7 @@ enum-told-3 : tie.Need-enum-told-3
 enum-told-3 c = search needs
 
 returns : tie.Need-returns
-returns c = rw (sym (c .before .before .before .register-of .ensures) ∙ c .before .enum-told .given .1) (c .configured .ensures)
+returns c = rw (sym (c .before .before .before .register-of .ensures) ∙ c .before .enum-told .given .1) (c .configured-by .ensures)
 
 returns-2 : tie.Need-returns-2
 returns-2 c = rw (sym (c .before .before .register-of .ensures) ∙ c .enum-told2 .given .1)
@@ -59,7 +59,7 @@ stored-spec =
     (tie.spec
     register-of-requires
     enum-told
-    configured-requires
+    configured-by-requires
     enum-told-2
     enum-known-i
     with-output-requires

@@ -21,8 +21,8 @@ loop-holds c = refl
 fires-requires : tie.Need-fires-requires Inv-loop μ-loop
 fires-requires c κs = search cases
 
-fired-requires : tie.Need-fired-requires Inv-loop μ-loop
-fired-requires c κs = search cases
+all-fired-requires : tie.Need-all-fired-requires Inv-loop μ-loop
+all-fired-requires c κs = search cases
 
 tick-requires : tie.Need-tick-requires Inv-loop μ-loop
 tick-requires c κs = search cases
@@ -40,15 +40,15 @@ loop-again : tie.Need-loop-again Inv-loop μ-loop
 loop-again c =
     let b = c .before .before .before in
     let l = b .before .before .before .loop in
-    fires-first (l .left) (l .chip) _ _ _ (omega arith) (sym (b .before .fires .ensures) ∙ b .if1 .taken) (c .before .before .fired .ensures)
+    fires-first (l .left) (l .chip) _ _ _ (omega arith) (sym (b .before .fires .ensures) ∙ b .if1 .taken) (c .before .before .all-fired .ensures)
     (c .before .tick .ensures) (c .with-watch .ensures)
     ∙ l .inv
 
 quiet-requires : tie.Need-quiet-requires Inv-loop μ-loop
 quiet-requires c κs = search cases
 
-fans-ticked-requires : tie.Need-fans-ticked-requires Inv-loop μ-loop
-fans-ticked-requires c κs = search cases
+all-ticks-requires : tie.Need-all-ticks-requires Inv-loop μ-loop
+all-ticks-requires c κs = search cases
 
 with-watch-requires-2 : tie.Need-with-watch-requires-2 Inv-loop μ-loop
 with-watch-requires-2 c κs = search cases
@@ -71,7 +71,7 @@ loop-again-2 : tie.Need-loop-again-2 Inv-loop μ-loop
 loop-again-2 c =
     let q = c .before .before .before in
     let l = q .before .before .before .before .loop in
-    quiet-first (l .left) (l .chip) _ (q .quiet .ensures) _ _ (c .before .before .fans-ticked .ensures) (c .before .with-watch2 .ensures) ∙ l .inv
+    quiet-first (l .left) (l .chip) _ (q .quiet .ensures) _ _ (c .before .before .all-ticks .ensures) (c .before .with-watch2 .ensures) ∙ l .inv
 
 returns : tie.Need-returns Inv-loop μ-loop
 unfolding repeated
@@ -88,14 +88,14 @@ ticks-spec =
     μ-loop
     loop-holds
     fires-requires
-    fired-requires
+    all-fired-requires
     tick-requires
     with-watch-requires
     sub-left
     loop-less
     loop-again
     quiet-requires
-    fans-ticked-requires
+    all-ticks-requires
     with-watch-requires-2
     sub-left-2
     loop-less-2

@@ -24,8 +24,8 @@ mul-fan c = search cases
 array-copy-out-fan : tie.Need-array-copy-out-fan Inv-loop μ-loop
 array-copy-out-fan c = search cases
 
-moved-requires : tie.Need-moved-requires Inv-loop μ-loop
-moved-requires c κs = search cases
+move-of-requires : tie.Need-move-of-requires Inv-loop μ-loop
+move-of-requires c κs = search cases
 
 mul-fans : tie.Need-mul-fans Inv-loop μ-loop
 mul-fans c = search cases
@@ -42,7 +42,7 @@ loop-less c = search cases
 loop-again : tie.Need-loop-again Inv-loop μ-loop
 loop-again c = (
   omega arith,
-  moved-next _ _ _ _ _ _ (c .before .before .before .loop .inv .1) (c .moved .ensures) (search needs),
+  moved-next _ _ _ _ _ _ (c .before .before .before .loop .inv .1) (c .move-of .ensures) (search needs),
 )
 
 returns : tie.Need-returns Inv-loop μ-loop
@@ -59,7 +59,7 @@ each-spec =
     loop-holds
     mul-fan
     array-copy-out-fan
-    moved-requires
+    move-of-requires
     mul-fans
     array-set-from-fans
     add-i

@@ -8,8 +8,8 @@ use Rattle.emc2305_fan.proofs.Fan.still_ticks.Tie as tie
 under-ramp-requires : tie.Need-under-ramp-requires
 under-ramp-requires c κs = search needs
 
-counted-ticks-requires : tie.Need-counted-ticks-requires
-counted-ticks-requires c κs = (sym (c .before .under-ramp .ensures) ∙ c .if1 .taken, c .before .before .pre)
+clock-ticks-requires : tie.Need-clock-ticks-requires
+clock-ticks-requires c κs = (sym (c .before .under-ramp .ensures) ∙ c .if1 .taken, c .before .before .pre)
 
 returns : tie.Need-returns
 returns c = search needs
@@ -21,4 +21,4 @@ returns-2 c =
 
 pub still-ticks-spec : {M : Type 1} → statement M
 still-ticks-spec =
-    tie.close (tie.spec under-ramp-requires counted-ticks-requires returns returns-2)
+    tie.close (tie.spec under-ramp-requires clock-ticks-requires returns returns-2)

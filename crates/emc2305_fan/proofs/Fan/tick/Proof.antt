@@ -11,15 +11,15 @@ spin-tick-requires c κs = search needs
 under-ramp-requires : tie.Need-under-ramp-requires
 under-ramp-requires c κs = search needs
 
-counted-tick-requires : tie.Need-counted-tick-requires
-counted-tick-requires c κs = search needs
+clock-tick-requires : tie.Need-clock-tick-requires
+clock-tick-requires c κs = search needs
 
 returns : tie.Need-returns
 returns c = c .spin-tick .ensures ∙ sym (ticks-spin (c .before .before .args .self) (c .before .if1 .taken))
 
 returns-2 : tie.Need-returns-2
 returns-2 c =
-    c .counted-tick .ensures
+    c .clock-tick .ensures
     ∙ sym (ticks-ramp (c .before .before .before .before .args .self) (c .before .before .before .if1 .left) (sym (c .before .before .under-ramp .ensures) ∙ c .before .if2 .taken))
 
 returns-3 : tie.Need-returns-3
@@ -33,7 +33,7 @@ tick-spec =
     (tie.spec
     spin-tick-requires
     under-ramp-requires
-    counted-tick-requires
+    clock-tick-requires
     returns
     returns-2
     returns-3)
