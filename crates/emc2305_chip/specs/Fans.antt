@@ -1,6 +1,6 @@
 -- The five fans side by side: what happens to all of them, and their status bits.
 use mathlib.Core.Bool.{Bool, false, cond, _&&_, _||_}
-use mathlib.Core.List.{List, [], map}
+use mathlib.Core.List.{List, []}
 use Prim.Native.Nat.{ℕ, zero, suc, _+_, _^_}
 use lib.ListN.{getD}
 use Rattle.laws.specs.Repeat.{repeated}

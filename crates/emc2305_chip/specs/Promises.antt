@@ -74,7 +74,7 @@ abbrev pub zeros : ℕ → List ℕ
 zeros zero = []
 zeros (suc n) = 0x00 ∷ zeros n
 
--- the defaults from 00h to FFh: 20h, the five fans, the identity bytes of Table 5.1, and 00h elsewhere
+-- the defaults from 00h to FFh: 20h, the five fans, the identity bytes, and 00h elsewhere
 abbrev pub allDefaults : List ℕ
 allDefaults =
     zeros 0x20 ++ (0x40 ∷ zeros 0x0F) ++ (fanDefaults ++ (fanDefaults ++ (fanDefaults ++ (fanDefaults ++ fanDefaults))))

@@ -22,11 +22,11 @@ use Rattle.emc2305_fan.specs.Tach.{countHigh, countLow, sampled, fired}
 abbrev pub LevelRule : Type 0
 LevelRule = (i : ℕ) → i < 8 → getD levels i 0 ≡ (30 + 5 * i) * 255 / 100
 
--- the update times of 002 in ms
+-- the update times of the datasheet in ms
 abbrev pub updateTimes : List ℕ
 updateTimes = 100 ∷ 200 ∷ 300 ∷ 400 ∷ 500 ∷ 800 ∷ 1200 ∷ 1600 ∷ []
 
--- the spin-up times of 002 in ms
+-- the spin-up times of the datasheet in ms
 abbrev pub spinTimes : List ℕ
 spinTimes = 250 ∷ 500 ∷ 1000 ∷ 2000 ∷ []
 

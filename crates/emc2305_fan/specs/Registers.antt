@@ -1,6 +1,6 @@
 -- A fan's registers, by offset.
 use Prim.Native.Nat.{ℕ, _/_, _%_, _^_}
-use mathlib.Core.Bool.{Bool, true, false, cond, not, _&&_, _||_}
+use mathlib.Core.Bool.{Bool, false, cond, not, _&&_, _||_}
 use lib.Dec.{leb, eqb}
 use lib.ListN.{getD}
 use Rattle.emc2305_fan.specs.declared.Fan.{Fan}

@@ -34,8 +34,8 @@ ready =
 -- fan 1 spins up, fan 3 gets another Max Step and Minimum Drive, the chip is locked
 -- refused: a transfer to another address, a power-on with address 200, a read whose reply has no room
 -- of fan 2 itself: a write that the lock keeps from being stored, a wish in direct mode, a good sample and one that stalls, its status read and cleared
-abbrev pub busy : List Handed
-busy =
+abbrev pub busyEvents : List Handed
+busyEvents =
     withBytes (Transfer false 0x2C 4 2)
     ∷ withBytes (Ticks 20)
     ∷ withBytes (Transfer false 0x2D 2 2)
@@ -62,12 +62,12 @@ numbersOf (h ∷ rest) c = stepped c (h .log) (h .event) (h .room) .number ∷ n
 abbrev pub BusyRamp : Type 0
 BusyRamp =
     Ramping 1 153 240 16 32 10 ready
-    × (throughout (undisturbed 1) busy ready ≡ true)
-    × (numbersOf busy ready ≡ 0 ∷ 0 ∷ 7 ∷ 5 ∷ 0 ∷ 0 ∷ 0 ∷ 0 ∷ 8 ∷ 0 ∷ 0 ∷ 0 ∷ 0 ∷ 0 ∷ 0 ∷ [])
-    × (takenTicks busy ready ≡ 90)
-    × (updatesMade 1 busy ready ≡ 3)
-    × (fanOf 1 (afterAll busy ready) .drive ≡ 201)
-    × (fanOf 1 (afterAll busy ready) .clock ≡ 4)
+    × (throughout (undisturbed 1) busyEvents ready ≡ true)
+    × (numbersOf busyEvents ready ≡ 0 ∷ 0 ∷ 7 ∷ 5 ∷ 0 ∷ 0 ∷ 0 ∷ 0 ∷ 8 ∷ 0 ∷ 0 ∷ 0 ∷ 0 ∷ 0 ∷ 0 ∷ [])
+    × (takenTicks busyEvents ready ≡ 90)
+    × (updatesMade 1 busyEvents ready ≡ 3)
+    × (fanOf 1 (afterAll busyEvents ready) .drive ≡ 201)
+    × (fanOf 1 (afterAll busyEvents ready) .clock ≡ 4)
 
 -- in closed loop, before it: a good reading, the loop on, a target, the spin-up of 40 ticks that it starts, a wish of 200, and 10 ticks more
 abbrev pub closedReady : Chip

@@ -55,8 +55,8 @@ abbrev pub chipAfter : List Event → Chip
 chipAfter events = afterAll (map exampleGiven (PowerOn 0x2C ∷ events)) unpowered
 
 -- what registers show after a power-on and events in turn
-abbrev pub shownAfter : List Event → List ℕ → List ℕ
-shownAfter events addresses = map (shownAt (chipAfter events)) addresses
+abbrev pub registersThen : List Event → List ℕ → List ℕ
+registersThen events addresses = map (shownAt (chipAfter events)) addresses
 
 -- every fan's Setting, and 24h
 abbrev pub settings : List ℕ
@@ -88,14 +88,14 @@ examples =
     ∷ (map (driveAfter rampedAt80) (40 ∷ 72 ∷ 104 ∷ []), 153 ∷ 137 ∷ 128 ∷ [])
     ∷ (map stallBit (7871 ∷ 7872 ∷ []), 0 ∷ 1 ∷ [])
     ∷ (shownBelow 256 (chipAfter (Ticks 319 ∷ [])), allDefaults)
-    ∷ (shownAfter (Ticks 320 ∷ []) settings, 0xFF ∷ 0xFF ∷ 0xFF ∷ 0xFF ∷ 0xFF ∷ 0x80 ∷ [])
-    ∷ (shownAfter (Ticks 320 ∷ write31 ∷ []) (0x30 ∷ []), 0xFF ∷ [])
+    ∷ (registersThen (Ticks 320 ∷ []) settings, 0xFF ∷ 0xFF ∷ 0xFF ∷ 0xFF ∷ 0xFF ∷ 0x80 ∷ [])
+    ∷ (registersThen (Ticks 320 ∷ write31 ∷ []) (0x30 ∷ []), 0xFF ∷ [])
     ∷ (readNumber (0x9C ∷ []) ∷ [], 1 ∷ [])
     ∷ (readNumber (0x9D ∷ []) ∷ [], 2 ∷ [])
     ∷ (readNumber (0x9C ∷ 0x46 ∷ 0x02 ∷ 0x09 ∷ []) ∷ [], 4 ∷ [])
     ∷ (readNumber (0x9C ∷ 0x46 ∷ 0x05 ∷ 0x14 ∷ 0x58 ∷ []) ∷ [], 1 ∷ [])
-    ∷ (shownAfter (lockSet ∷ write37 ∷ []) (0xEF ∷ 0x37 ∷ []), 0x01 ∷ 0x10 ∷ [])
-    ∷ (shownAfter (lockSet ∷ write30 ∷ Ticks 40 ∷ []) (0x30 ∷ []), 0x80 ∷ [])
+    ∷ (registersThen (lockSet ∷ write37 ∷ []) (0xEF ∷ 0x37 ∷ []), 0x01 ∷ 0x10 ∷ [])
+    ∷ (registersThen (lockSet ∷ write30 ∷ Ticks 40 ∷ []) (0x30 ∷ []), 0x80 ∷ [])
     ∷ []
 
 -- each row's sides are the same

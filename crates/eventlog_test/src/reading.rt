@@ -3,7 +3,7 @@ use crate::show;
 use eventlog::Reading;
 use eventlog::Writing;
 
-// Stands for the end of the log; none of the document's numbers.
+// Stands for the end of the log; none of document 01's numbers.
 const END: u8 = 9;
 
 // The most bytes that a log of `vary` has.

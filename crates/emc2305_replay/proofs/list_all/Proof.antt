@@ -39,7 +39,7 @@ add-served c =
     let b10 = c .before .before .before .before .before .before .before .before .before .before in
     let b4 = c .before .before .before .before in
     let h : b10 .loop .hold .from + b4 .list .result .used ≤ b10 .loop .hold .held = used-up _ _ _ (b10 .loop .window) (b10 .loop .inv .0)
-    (b10 .loop .inv .1) (used-within _ _ _ _ (b10 .loop .out) _ _ (b4 .list .ensures .0) (b4 .list .ensures .1)) in
+    (b10 .loop .inv .1) (used-within _ _ _ _ (b10 .loop .out) _ _ (b4 .list .ensures)) in
     let i = b10 .loop .inv in
     omega (arith, h, i .1, i .2, b14 .good .0 .0)
 
@@ -47,20 +47,20 @@ slice-reshare-prefix-served : tie.Need-slice-reshare-prefix-served Inv-loop μ-l
 slice-reshare-prefix-served c =
     let b10 = c .before .before .before .before .before .before .before .before .before .before in
     let b4 = c .before .before .before .before in
-    laid-within _ _ _ _ (b10 .loop .out) _ _ (b4 .list .ensures .0) (b4 .list .ensures .1)
+    laid-within _ _ _ _ (b10 .loop .out) _ _ (b4 .list .ensures)
 
 slice-aggregate-served : tie.Need-slice-aggregate-served Inv-loop μ-loop
 slice-aggregate-served c =
     let b11 = c .before .before .before .before .before .before .before .before .before .before .before in
     let b5 = c .before .before .before .before .before in
-    laid-count _ _ _ _ (b11 .loop .out) _ _ (b5 .list .ensures .0) (b5 .list .ensures .1)
+    laid-count _ _ _ _ (b11 .loop .out) _ _ (b5 .list .ensures)
 
 served-requires : tie.Need-served-requires Inv-loop μ-loop
 served-requires c κs =
     let b12 = c .before .before .before .before .before .before .before .before .before .before .before .before in
     let b6 = c .before .before .before .before .before .before in (
       used-up _ _ _ (b12 .loop .window) (b12 .loop .inv .0) (b12 .loop .inv .1)
-          (used-within _ _ _ _ (b12 .loop .out) _ _ (b6 .list .ensures .0) (b6 .list .ensures .1)),
+          (used-within _ _ _ _ (b12 .loop .out) _ _ (b6 .list .ensures)),
       b12 .loop .inv .1,
     )
 
