@@ -1,11 +1,6 @@
 #!/usr/bin/env python3
 """Shows that tools/claims.py finds what it is there to find, and nothing else."""
-import pathlib
-import subprocess
-import sys
-import tempfile
-
-CLAIMS = pathlib.Path(__file__).resolve().parent.parent / "tools" / "claims.py"
+import trials
 
 WHOLE = """
 // A comment may say requires { or pub fn gone().
@@ -96,22 +91,8 @@ PAGES = [
 ]
 
 
-def run(files, arguments):
-    with tempfile.TemporaryDirectory() as folder:
-        for name, text in files.items():
-            file = pathlib.Path(folder, name)
-            file.parent.mkdir(parents=True, exist_ok=True)
-            file.write_text(text, encoding="utf-8")
-        return subprocess.run([sys.executable, CLAIMS, *arguments], cwd=folder, capture_output=True, text=True)
-
-
-failed = 0
-TRIALS = [(*case, ["crates"]) for case in FUNCTIONS + PROMISES] + [(*case, ["crates", "page", "tried"]) for case in PAGES]
-for name, files, status, lines, arguments in TRIALS:
-    done = run(files, arguments)
-    wrong = [line for line in lines if line not in done.stdout]
-    if done.returncode != status or wrong:
-        failed += 1
-        print(f"claims_test: {name}: status {done.returncode}, printed:\n{done.stdout}{done.stderr}")
-print(f"claims_test: {len(TRIALS) - failed} of {len(TRIALS)} cases")
-sys.exit(1 if failed else 0)
+trials.compare(
+    "claims.py",
+    [(name, files, ["crates"], status, lines) for name, files, status, lines in FUNCTIONS + PROMISES]
+    + [(name, files, ["crates", "page", "tried"], status, lines) for name, files, status, lines in PAGES],
+)

@@ -1,11 +1,7 @@
 #!/usr/bin/env python3
 """Shows that tools/edits.py finds each edit that does not fit, and takes those that do."""
-import pathlib
-import subprocess
-import sys
-import tempfile
+import trials
 
-EDITS = pathlib.Path(__file__).resolve().parent.parent / "tools" / "edits.py"
 CODE = "one\ntwo\nthree two\n"
 
 # A name, the edit, the exit status, and what must be printed.
@@ -24,17 +20,10 @@ CASES = [
     ("no edit at all", None, 1, "0 tried apart"),
 ]
 
-failed = 0
-for name, edit, status, line in CASES:
-    with tempfile.TemporaryDirectory() as folder:
-        files = {"crates/a/src/lib.rt": CODE, **({"tried/a/wrong.edit": edit} if edit else {})}
-        for file, text in files.items():
-            path = pathlib.Path(folder, file)
-            path.parent.mkdir(parents=True, exist_ok=True)
-            path.write_text(text, encoding="utf-8")
-        done = subprocess.run([sys.executable, EDITS, "crates", "tried"], cwd=folder, capture_output=True, text=True)
-    if done.returncode != status or line not in done.stdout:
-        failed += 1
-        print(f"edits_test: {name}: status {done.returncode}, printed:\n{done.stdout}{done.stderr}")
-print(f"edits_test: {len(CASES) - failed} of {len(CASES)} cases")
-sys.exit(1 if failed else 0)
+trials.compare(
+    "edits.py",
+    [
+        (name, {"crates/a/src/lib.rt": CODE, **({"tried/a/wrong.edit": edit} if edit else {})}, ["crates", "tried"], status, [line])
+        for name, edit, status, line in CASES
+    ],
+)
