@@ -72,6 +72,7 @@ PROMISES = [
     ("a proof in a section", house(proofs__Proved="module _ (h : Kept) where\n  " + PROVED), 1, ["Kept has no proof"]),
     ("a section that takes what it proves", house(proofs__Proved=PROVED.replace("Lawful d", "InTurn d")), 1, ["InTurn has no proof"]),
     ("what is asked before it", house(proofs__Proved=PROVED.replace(": InTurn", ": Lawful d → InTurn")), 0, [COUNTS]),
+    ("a field of a record that asks nothing", house(specs__Over=OVER.replace("Lawful", "Other")), 1, ["Asked has no proof"]),
     ("a file that is not checked", house(proofs__Lib=""), 1, ["Kept has no proof", "InTurn has no proof"]),
     ("another crate's proof", {**house(proofs__Lib=""), "crates/b/proofs/Lib.antt": "pub mod P\n", "crates/b/proofs/P.antt": PROVED}, 1, ["Kept has no proof in a"]),
     ("no promise at all", {"crates/a/src/lib.rt": WHOLE}, 1, ["0 promises"]),

@@ -4,8 +4,8 @@
     tools/claims.py CRATES_FOLDER [CLAIMS_PAGE TRIED_FOLDER]
 
 A promise is a statement of specs/, of itself or over any device or teller. Its proof is a line `pub NAME : STATEMENT` of a file that proofs/Lib.antt names:
-under no section, or, of a statement over any device or teller, in a section that takes that and what is asked of one. What is asked is a statement
-that a record of specs/ has as a field: it is proved of each device, as that record.
+under no section, or, of a statement over any device or teller, in a section that takes that and what is asked of one. What is asked is a
+statement that such a record, `Lawful`, has as a field: it is proved of each device, as that record.
 Prints each offender with file and line, then counts; exits 1 where there is an offender, no public function at all, or no promise.
 With a page it also holds the page to what is there: each statement of specs/ and each must-fail edit is named on it; each statement in its section
 on theorems is there; and a name on it has a dagger where the edit is in the folder of those tried apart, and nowhere else. Names go by themselves,
@@ -18,11 +18,13 @@ import sys
 PUBLIC = re.compile(r'\bpub\s+(?:extern\s+"C"\s+)?fn\s+(\w+)')
 # a statement, of itself or over any device or teller
 STATEMENT = re.compile(r"^abbrev pub (\w+) : ((?:Device|Teller) → (?:ℕ → )?)?Type 0$", re.MULTILINE)
-# a statement as a field of a record: it is asked of a device
+# what is asked of a device or teller: records, and the statements that are fields of one
+REQUIRED = r"(?:Lawful|Steady|Short)"
+REQUIREMENT = re.compile(rf"^pub record {REQUIRED} .* where\n((?:  .*\n)+)", re.MULTILINE)
 ASKED = re.compile(r"^  pub [\w-]+ : (\w+) \w+$", re.MULTILINE)
 # what may stand before a statement, and the sections that a proof over any device or teller may stand in
-BEFORE = r"(?:(?:Lawful|Steady|Short) \w+(?: \w+)? → )*"
-SECTION = re.compile(r"^module _((?: \(\w+ : (?:Device|Teller|ℕ|(?:Lawful|Steady|Short) \w+(?: \w+)?)\))+) where$")
+BEFORE = rf"(?:{REQUIRED} \w+(?: \w+)? → )*"
+SECTION = re.compile(rf"^module _((?: \(\w+ : (?:Device|Teller|ℕ|{REQUIRED} \w+(?: \w+)?)\))+) where$")
 MODULE = re.compile(r"^pub mod (\w+)$", re.MULTILINE)
 # the page's section on theorems
 THEOREMS = re.compile(r"^## Where each theorem is$(.*?)^## ", re.MULTILINE | re.DOTALL)
@@ -82,7 +84,7 @@ def statements(crate):
     """Each statement of a crate's specs/, with its file, and whether it is over any device or teller; those that are asked of one are left out."""
     files = sorted(crate.glob("specs/*.antt"))
     texts = {file: file.read_text(encoding="utf-8") for file in files}
-    asked = {name for text in texts.values() for name in ASKED.findall(text)}
+    asked = {name for text in texts.values() for fields in REQUIREMENT.findall(text) for name in ASKED.findall(fields)}
     return [(file, name, bool(over)) for file in files for name, over in STATEMENT.findall(texts[file]) if name not in asked]
 
 
