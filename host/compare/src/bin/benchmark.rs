@@ -4,7 +4,7 @@ use compare::logs::{self, Measured};
 use compare::subject::{Independent, Proved, Subject};
 use std::fs::File;
 use std::hint::black_box;
-use std::path::Path;
+use std::path::{Path, PathBuf};
 use std::process::{Command, ExitCode, Stdio};
 use std::time::Instant;
 
@@ -12,17 +12,33 @@ use std::time::Instant;
 const REPEATS: usize = 11;
 
 fn main() -> ExitCode {
-    let proved = match Proved::built() {
-        Ok(proved) => proved,
+    match Proved::built().and_then(|proved| Ok((proved, independent_program()?))) {
+        Ok((proved, other)) => {
+            runs(&proved);
+            growth(&proved);
+            listings(&proved, &other);
+            ExitCode::SUCCESS
+        }
         Err(missing) => {
             eprintln!("benchmark: {missing}");
-            return ExitCode::FAILURE;
+            ExitCode::FAILURE
         }
-    };
-    runs(&proved);
-    growth(&proved);
-    listings(&proved);
-    ExitCode::SUCCESS
+    }
+}
+
+/// The listing program over the independent model, which cargo lays beside this one.
+fn independent_program() -> Result<PathBuf, String> {
+    let program = std::env::current_exe()
+        .expect("this program has a path")
+        .with_file_name("list");
+    if program.is_file() {
+        Ok(program)
+    } else {
+        Err(format!(
+            "{} is not there: make it with `cargo build --release --manifest-path host/Cargo.toml`",
+            program.display()
+        ))
+    }
 }
 
 /// The median of several times, in seconds.
@@ -109,10 +125,7 @@ fn growth(proved: &Proved) {
 }
 
 /// Both programs, from a file and into nothing.
-fn listings(proved: &Proved) {
-    let other = std::env::current_exe()
-        .expect("this program has a path")
-        .with_file_name("list");
+fn listings(proved: &Proved, other: &Path) {
     println!("| log | bytes in | bytes out | | proved | independent | ratio |");
     println!("|---|---|---|---|---|---|---|");
     for Measured { name, log, .. } in [
@@ -125,7 +138,7 @@ fn listings(proved: &Proved) {
         let lines = Independent.list(&log);
         assert!(proved.list(&log) == lines, "the programs list otherwise");
         let lines = lines.expect("the model lists every log");
-        let (ours, theirs) = both(|| list(&proved.program, &file), || list(&other, &file));
+        let (ours, theirs) = both(|| list(&proved.program, &file), || list(other, &file));
         std::fs::remove_file(&file).expect("the file is there");
         for (what, bytes) in [("MB of log", log.len()), ("MB of lines", lines.len())] {
             let speed = |seconds: f64| bytes as f64 / seconds / 1e6;
