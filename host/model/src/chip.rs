@@ -25,7 +25,7 @@ const FAN_DEFAULTS: [u8; 16] = [
     0x00, 0x01, 0x2B, 0x28, 0x00, 0x2A, 0x19, 0x10, 0x66, 0xF5, 0x00, 0x00, 0xF8, 0xFF, 0xFF, 0xF8,
 ];
 
-/// Table 5.1: FCh product features, FDh product ID, FEh manufacturer ID, FFh revision.
+/// The datasheet's register table: FCh product features, FDh product ID, FEh manufacturer ID, FFh revision.
 const IDENTITY: [u8; 4] = [0x00, 0x34, 0x5D, 0x80];
 /// Registers: "20h configuration (40h, locked; bit 7 MASK, bit 5 WD_EN)".
 const CONFIGURATION_DEFAULT: u8 = 0x40;

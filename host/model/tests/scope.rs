@@ -494,7 +494,7 @@ fn lock() {
     assert_eq!((peek(&mut chip, 0x37), chip.fans[0].registers[SETTING]), (0x10, 0x80));
 }
 
-// Registers: every default of the fans and of Table 5.1; undefined registers read 00h.
+// Registers: every default of the fans and of the datasheet's register table; undefined registers read 00h.
 #[test]
 fn defaults() {
     const FAN: [u8; 16] = [
