@@ -1,11 +1,10 @@
 //! The cases of the program eventlog_test: reader, writer and range test.
 
 use crate::chance::Chance;
-use crate::events::{clock, name, power_on, sample, send, ticks, wish, words};
+use crate::events::{clock, name, power_on, sample, send, ticks, wish, words, LARGEST, WRAPPING};
 use crate::script::{bytes, code, hex_or, rows, Script};
 use model::log::{check, read, write, Event};
 
-const LARGEST: usize = usize::MAX;
 /// What stands in a lent buffer before the writer is called.
 const FILL: u8 = 0xEE;
 
@@ -270,14 +269,10 @@ fn transfer_write_cases(script: &mut Script) {
         (37, 1),
         (38, 0),
         (6, 32),
-        (LARGEST, 0),
-        (LARGEST, 1),
-        (LARGEST, 2),
-        (LARGEST - 31, 32),
-        (0, LARGEST),
-        (1, LARGEST),
-        (LARGEST, LARGEST),
-    ] {
+    ]
+    .into_iter()
+    .chain(WRAPPING)
+    {
         write_case(script, &send(44, place, length), &sent(), 40);
     }
     // the count that a read's one byte holds: 0, 1, 32, 33, 255; other numbers of bytes; places as above

@@ -2,6 +2,19 @@
 
 use model::log::{write, Event};
 
+pub const LARGEST: usize = usize::MAX;
+
+/// Places and lengths of a transfer's bytes whose sum wraps, or comes near it.
+pub const WRAPPING: [(usize, usize); 7] = [
+    (LARGEST, 0),
+    (LARGEST, 1),
+    (LARGEST, 2),
+    (LARGEST - 31, 32),
+    (0, LARGEST),
+    (1, LARGEST),
+    (LARGEST, LARGEST),
+];
+
 /// The longest record: a transfer that sends 32 bytes.
 pub const LONGEST_RECORD: usize = 37;
 

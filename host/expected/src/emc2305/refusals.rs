@@ -2,9 +2,7 @@
 
 use super::bench::{row, Bench, HEALTHY, STALLED};
 use super::{CONFIGURATION, ENABLE, FANS, HOME, STALL};
-use crate::events::{clock, send};
-
-const LARGEST: usize = usize::MAX;
+use crate::events::{clock, send, WRAPPING};
 
 pub fn cases(bench: &mut Bench) {
     refusal_5_cases(bench);
@@ -52,23 +50,10 @@ fn bad_transfers(bench: &mut Bench) {
         for address in [128, HOME + 128, 255] {
             bench.transfer(&kind(address, 1, 1), &sent());
         }
-        for (place, length) in [
-            (0, 33),
-            (0, 40),
-            (0, 41),
-            (40, 1),
-            (41, 0),
-            (39, 2),
-            (9, 32),
-            (100, 1),
-            (LARGEST, 0),
-            (LARGEST, 1),
-            (LARGEST, 2),
-            (LARGEST - 31, 32),
-            (0, LARGEST),
-            (1, LARGEST),
-            (LARGEST, LARGEST),
-        ] {
+        for (place, length) in [(0, 33), (0, 40), (0, 41), (40, 1), (41, 0), (39, 2), (9, 32), (100, 1)]
+            .into_iter()
+            .chain(WRAPPING)
+        {
             bench.transfer(&kind(HOME, place, length), &sent());
         }
         bench.transfer(&kind(HOME, 0, 1), &[]);

@@ -5,10 +5,8 @@ use super::{at, CONFIGURATION, DRIVE_FAIL, ENABLE, FANS, HOME, LOCK, SPIN, STALL
 use crate::chance::Chance;
 use crate::emc2305_fan::traffic as fan;
 use crate::emc2305_fan::ON;
-use crate::events::{clock, send};
+use crate::events::{clock, send, LARGEST};
 use model::chip::{SETTING, TARGET_HIGH, VALID_COUNT};
-
-const LARGEST: usize = usize::MAX;
 
 /// The chip's own registers, those that rules speak of more often.
 const OWN: [u8; 12] = [
