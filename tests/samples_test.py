@@ -3,7 +3,8 @@
 
     python3 tests/samples_test.py target/bin/emc2305_replay
 
-It also holds samples/ramp.log to the log that crates/emc2305_promises/specs/Busy.antt proves a ramp of.
+It also holds samples/ramp.log and samples/held-rotor.log to the logs of which crates/emc2305_promises/specs proves a ramp, in Busy.antt, and what
+reads of a held rotor's status show, in Held.antt.
 """
 import pathlib
 import re
@@ -21,9 +22,9 @@ def fail(text):
     sys.exit(f"samples_test: {text}")
 
 
-def proved_trace():
-    """The bytes of the definition `trace`."""
-    definition = (ROOT / "crates/emc2305_promises/specs/Busy.antt").read_text(encoding="utf-8").split("\ntrace =")[1].split("\n\n")[0]
+def proved_trace(file, name):
+    """The bytes of a definition."""
+    definition = (ROOT / "crates/emc2305_promises/specs" / file).read_text(encoding="utf-8").split(f"\n{name} =")[1].split("\n\n")[0]
     payloads = [(int(kind), [int(x, 0) for x in row.split(" ∷ ")[:-1]]) for kind, row in RECORD.findall(definition)]
     return b"".join(bytes([*MARK, kind, len(payload), *payload]) for kind, payload in payloads)
 
@@ -37,8 +38,10 @@ for file in logs:
         fail(f"{file.name}: the independent model lists other lines")
     if subprocess.run([sys.argv[1]], input=log, capture_output=True, timeout=60).stdout != lines:
         fail(f"{file.name}: the program lists other lines")
-if (ROOT / "samples/ramp.log").read_bytes() != proved_trace():
+if (ROOT / "samples/ramp.log").read_bytes() != proved_trace("Busy.antt", "trace"):
     fail("ramp.log is not the log that the ramp is proved of")
+if (ROOT / "samples/held-rotor.log").read_bytes() != proved_trace("Held.antt", "heldTrace"):
+    fail("held-rotor.log is not the log that the reads are proved of")
 if len(logs) < 2:
     fail("a sample is missing")
 print(f"samples_test: {len(logs)} samples")

@@ -1,5 +1,5 @@
 -- A data byte while pointer and fans are held apart from the chip.
-use mathlib.Core.Path.{_≡_, refl, sym, _∙_}
+use mathlib.Core.Path.{_≡_, refl, sym, ap, _∙_}
 use mathlib.Core.Bool.{Bool, true, false, cond, true≢false}
 use mathlib.Core.List.{List, map}
 use Prim.Native.Nat.{ℕ, _≤_}
@@ -8,17 +8,19 @@ use lib.ListN.{set}
 use borrow.Author.Tests.{leb-true}
 use Rattle.laws.proofs.Lists.{map-keeps}
 use Rattle.laws.proofs.Tests.{by-test, and-left, and-right}
+use Rattle.emc2305_fan.specs.declared.Bit.{Bit}
+use Rattle.emc2305_fan.specs.declared.Bit.the-variants.{Stall, Spin}
 use Rattle.emc2305_fan.specs.declared.Fan.{Fan}
 use Rattle.emc2305_fan.specs.Registers.{shown}
 use Rattle.emc2305_fan.specs.Stored.{written}
-use Rattle.emc2305_chip.specs.declared.Bit.{Bit}
-use Rattle.emc2305_chip.specs.declared.Bit.the-variants.{Stall, Spin}
+use Rattle.emc2305_fan.specs.Status.{bitRead}
+use Rattle.emc2305_fan.proofs.Statuses.{status-read}
 use Rattle.emc2305_chip.specs.declared.Chip.{Chip}
 use Rattle.emc2305_chip.specs.declared.Register.{Register}
 use Rattle.emc2305_chip.specs.declared.Register.the-variants.{Configuration, Status, StallStatus, SpinStatus, DriveFailStatus, Enable, Output, OfFan, Lock, Identity, Undefined}
 use Rattle.emc2305_chip.specs.State.{withFans, withPointer}
 use Rattle.emc2305_chip.specs.Map.{within, ownWritable, registerOf}
-use Rattle.emc2305_chip.specs.Fans.{noFan, fanAt, bitCleared}
+use Rattle.emc2305_chip.specs.Fans.{noFan, fanAt}
 use Rattle.emc2305_chip.specs.Watching.{programmedBy}
 use Rattle.emc2305_chip.specs.Registers.{fanStores, fanStored, shownOf, clearedOf, storesIn, storedOf, shownAt, clearedAt, storesAt, writtenAt}
 use Rattle.emc2305_chip.proofs.Maps.{ofSomeFan}
@@ -107,13 +109,12 @@ abbrev pub SameShown : List Fan → List Fan → Type 0
 SameShown now before = (k o : ℕ) → shown (fanAt now k) o ≡ shown (fanAt before k) o
 
 -- no read changes what a fan shows
-bit-apart : (bit : Bit) (f : Fan) (o : ℕ) → shown (bitCleared bit f) o ≡ shown f o
+bit-apart : (which : Bit) (f : Fan) (o : ℕ) → shown (bitRead which f) o ≡ shown f o
 unfolding shown
-bit-apart Stall f o = refl
-bit-apart Spin f o = refl
+bit-apart which f o = ap (λ (g : Fan). shown g o) (status-read which f .2)
 
-bits-apart : (bit : Bit) (fans : List Fan) → SameShown (map (bitCleared bit) fans) fans
-bits-apart bit fans k o = map-keeps (λ (f : Fan). shown f o) (bitCleared bit) (λ f. bit-apart bit f o) fans k noFan
+bits-apart : (which : Bit) (fans : List Fan) → SameShown (map (bitRead which) fans) fans
+bits-apart which fans k o = map-keeps (λ (f : Fan). shown f o) (bitRead which) (λ f. bit-apart which f o) fans k noFan
 
 cleared-shown : (c : Chip) (r : Register) → SameShown (clearedOf r c .fans) (c .fans)
 cleared-shown c Configuration k o = refl

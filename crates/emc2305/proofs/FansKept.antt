@@ -13,20 +13,20 @@ use Rattle.laws.proofs.Tests.{by-test, or-left, or-right}
 use Rattle.eventlog.specs.declared.Event.{Event}
 use Rattle.eventlog.specs.declared.Event.the-variants.{Sample, Wish, Transfer}
 use Rattle.emc2305_fan.specs.declared.Fan.{Fan}
-use Rattle.emc2305_chip.specs.declared.Bit.{Bit}
-use Rattle.emc2305_chip.specs.declared.Bit.the-variants.{Stall, Spin}
+use Rattle.emc2305_fan.specs.Status.{butStatus, bitRead}
+use Rattle.emc2305_fan.proofs.Statuses.{status-read}
 use Rattle.emc2305_chip.specs.declared.Chip.{Chip}
 use Rattle.emc2305_chip.specs.declared.Register.{Register}
 use Rattle.emc2305_chip.specs.State.{withPointer}
 use Rattle.emc2305_chip.specs.Map.{registerOf, isOfFan}
-use Rattle.emc2305_chip.specs.Fans.{noFan, fanAt, bitCleared}
+use Rattle.emc2305_chip.specs.Fans.{noFan, fanAt}
 use Rattle.emc2305_chip.specs.Watching.{fedChip}
 use Rattle.emc2305_chip.specs.Registers.{atDefaults, fanStored, writtenAt}
 use Rattle.emc2305_chip.proofs.Moves.{stored-keeps, written-keeps, ticks-count}
 use Rattle.emc2305.specs.Transfers.{byteWritten, inTurn, sent, readOut}
 use Rattle.emc2305.specs.Step.{taken}
 use Rattle.emc2305.specs.Traffic.{byteStoresTo, anyStoresTo, sentStoresTo}
-use Rattle.emc2305.specs.Promises.{FiveFans, OtherFans, butStatus}
+use Rattle.emc2305.specs.Promises.{FiveFans, OtherFans}
 use Rattle.emc2305.proofs.Effects.{by-effect}
 use Rattle.emc2305.proofs.ReadKeeps.{passed-keeps, read-keeps}
 use Rattle.emc2305.proofs.Numbers.{after-keeps}
@@ -65,11 +65,6 @@ taken-counts log event c h =
 pub five-fans : FiveFans
 five-fans c log event room h = after-keeps count c log event room (taken-counts log event c h) ∙ h
 
--- a read clears status bits alone
-cleared-but : (which : Bit) (f : Fan) → butStatus (bitCleared which f) ≡ butStatus f
-cleared-but Stall f = refl
-cleared-but Spin f = refl
-
 -- fan i + 1, over a write that stores nothing to it, and over a read
 module _ (i : ℕ) where
   abbrev fan : Chip → Fan
@@ -102,7 +97,7 @@ module _ (i : ℕ) where
   reads-leave : (n : ℕ) (c : Chip) → butStatus (fan (readOut n c)) ≡ butStatus (fan c)
   reads-leave n c =
       read-keeps (λ (d : Chip). butStatus (fan d)) n c (λ d p. refl) (λ d. refl)
-      (λ d which. map-keeps butStatus (bitCleared which) (cleared-but which) (d .fans) i noFan)
+      (λ d which. map-keeps butStatus (bitRead which) (λ f. status-read which f .2) (d .fans) i noFan)
 
 pub other-fans : OtherFans
 unfolding taken

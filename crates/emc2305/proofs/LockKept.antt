@@ -13,22 +13,22 @@ use Rattle.laws.proofs.Repeat.{repeated-keeps}
 use Rattle.laws.proofs.Tests.{by-test, and-left, and-right}
 use Rattle.eventlog.specs.declared.Event.{Event}
 use Rattle.eventlog.specs.Kinds.{isPowerOn}
+use Rattle.emc2305_fan.specs.declared.Bit.{Bit}
 use Rattle.emc2305_fan.specs.declared.Fan.{Fan}
 use Rattle.emc2305_fan.specs.Registers.{bit, byteAt, locked, undefined, shown, stores}
 use Rattle.emc2305_fan.specs.Drive.{wished}
 use Rattle.emc2305_fan.specs.Stored.{written}
 use Rattle.emc2305_fan.specs.Tach.{sampled}
+use Rattle.emc2305_fan.specs.Status.{bitRead}
 use Rattle.emc2305_fan.proofs.Kept.{registers-after}
+use Rattle.emc2305_fan.proofs.Statuses.{status-read}
 use Rattle.emc2305_watchdog.specs.Watch.{fires}
-use Rattle.emc2305_chip.specs.declared.Bit.{Bit}
-use Rattle.emc2305_chip.specs.declared.Bit.the-variants.{Stall, Spin}
 use Rattle.emc2305_chip.specs.declared.Chip.{Chip}
-use Rattle.emc2305_chip.specs.declared.Move.the-variants.{Clear}
 use Rattle.emc2305_chip.specs.declared.Register.{Register}
 use Rattle.emc2305_chip.specs.declared.Register.the-variants.{Configuration, Status, StallStatus, SpinStatus, DriveFailStatus, Enable, Output, OfFan, Lock, Identity, Undefined}
 use Rattle.emc2305_chip.specs.State.{withPointer}
 use Rattle.emc2305_chip.specs.Map.{registerOf}
-use Rattle.emc2305_chip.specs.Fans.{noFan, fanAt, moveOf}
+use Rattle.emc2305_chip.specs.Fans.{noFan, fanAt}
 use Rattle.emc2305_chip.specs.Watching.{fedChip}
 use Rattle.emc2305_chip.specs.Registers.{shownOf, isLocked, guarded, writableIn, fanStored, shownAt, storesAt, writtenAt}
 use Rattle.emc2305_chip.specs.Ticks.{chipTicked}
@@ -66,9 +66,8 @@ module _ (o : ℕ) (l : locked o ≡ true) where
       (λ t. rw t (still f _ _ (registers-after f .4) (beside f 0x0 0x2 _ _ (λ e. omega (arith, inside)) (λ e. omega (arith, inside)))))
       (λ t. rw t (still f _ _ (registers-after f .0) refl))
 
-  clear-still : (which : Bit) (f : Fan) → shown (moveOf (Clear which) f) o ≡ shown f o
-  clear-still Stall f = still f _ _ refl refl
-  clear-still Spin f = still f _ _ refl refl
+  read-still : (which : Bit) (f : Fan) → shown (bitRead which f) o ≡ shown f o
+  read-still which f = still f _ _ (ap (λ (g : Fan). g .registers) (status-read which f .2)) refl
 
   wish-still : (wish : ℕ) (f : Fan) → shown (wished wish f) o ≡ shown f o
   wish-still wish f = still f _ _ (registers-after f .1 wish) refl
@@ -121,7 +120,7 @@ tick-same c = same c (chipTicked c) (tick-rest c .0) (tick-rest c .1) (λ i o l.
 read-same : (n : ℕ) (c : Chip) → Same c (readOut n c)
 read-same n c register g =
     read-keeps (λ (d : Chip). shownOf d register) n c (λ d p. aside d _ refl refl refl register g) (λ d. aside d _ refl refl refl register g)
-    (λ d which. same d _ refl refl (λ i o l. all-still o l (moveOf (Clear which)) (clear-still o l which) (d .fans) i) register g)
+    (λ d which. same d _ refl refl (λ i o l. all-still o l (bitRead which) (read-still o l which) (d .fans) i) register g)
 
 -- a write that is stored while locked is to no guarded register
 unguarded : (c : Chip) (address : ℕ) → isLocked c ≡ true → storesAt c address ≡ true → not (guarded (registerOf address)) ≡ true

@@ -51,7 +51,7 @@ turns-pass n p k (byte ∷ rest) c e =
     ∙ rw (suc-add k (length rest), add-suc k (length rest))
 
 -- after k bytes are read
-reads-pass : (n k : ℕ) (c : Chip) → c .pointer < 256 → repeated k (byteRead n) c .pointer ≡ pointerAfter n k (c .pointer)
+pub reads-pass : (n k : ℕ) (c : Chip) → c .pointer < 256 → repeated k (byteRead n) c .pointer ≡ pointerAfter n k (c .pointer)
 unfolding repeated byteRead
 reads-pass n zero c h = none-passed n (c .pointer) h
 reads-pass n (suc k) c h =
@@ -68,20 +68,22 @@ pointer-moves c = (
   λ n h. reads-pass n n c h,
 )
 
--- each byte is that of the register in turn, in whatever number of bytes
-reply-at : (n : ℕ) (c : Chip) (m k : ℕ) → c .pointer < 256 → k < m
-    → getD (replyOf n c m) k 0 ≡ shownAt (repeated k (byteRead n) c) (pointerAfter n k (c .pointer))
+-- each byte is that of the register at the pointer, in whatever number of bytes
+pub reply-at : (n : ℕ) (c : Chip) (m k : ℕ) → k < m
+    → let d : Chip = repeated k (byteRead n) c in
+    getD (replyOf n c m) k 0 ≡ shownAt d (d .pointer)
 unfolding replyOf
-reply-at n c zero k p h = absurd (omega arith)
-reply-at n c (suc m) k p h =
+reply-at n c zero k h = absurd (omega arith)
+reply-at n c (suc m) k h =
     let d = repeated m (byteRead n) c in
     let l = reply-length n c m in
-    by-test (eqb k m)
-    (λ t.
-    rw (eqb-true k m t) (getD-at (replyOf n c m) (shownAt d (d .pointer)) [] 0 m l ∙ ap (shownAt d) (reads-pass n m c p)))
+    by-test (eqb k m) (λ t. rw (eqb-true k m t) (getD-at (replyOf n c m) (shownAt d (d .pointer)) [] 0 m l))
     (λ t.
     let e = eqb-false k m t in
-    List·getD-append (replyOf n c m) (shownAt d (d .pointer) ∷ []) 0 k (omega arith) ∙ reply-at n c m k p (omega arith))
+    List·getD-append (replyOf n c m) (shownAt d (d .pointer) ∷ []) 0 k (omega arith) ∙ reply-at n c m k (omega arith))
 
 pub reply-bytes : ReplyBytes
-reply-bytes c n h = (reply-length n c n, λ k l. reply-at n c n k h l)
+reply-bytes c n h = (
+  reply-length n c n,
+  λ k l. reply-at n c n k l ∙ ap (shownAt (repeated k (byteRead n) c)) (reads-pass n k c h),
+)

@@ -14,8 +14,7 @@ use Rattle.eventlog.specs.Kinds.{isPowerOn, replyLength}
 use Rattle.eventlog.specs.Layout.{said}
 use Rattle.eventlog.specs.Numbers.{fieldFault}
 use Rattle.eventlog.specs.Range.{rangeNumber}
-use Rattle.emc2305_fan.specs.declared.Fan.{Fan}
-use Rattle.emc2305_fan.specs.State.{withStalled, withFailed}
+use Rattle.emc2305_fan.specs.Status.{butStatus}
 use Rattle.emc2305_watchdog.specs.declared.Watch.the-variants.{PowerUp}
 use Rattle.emc2305_watchdog.specs.Watch.{fed}
 use Rattle.emc2305_chip.specs.declared.Chip.{Chip}
@@ -77,11 +76,7 @@ FiveFans =
     (c : Chip) (log : List ℕ) (event : Event) (room : ℕ) → length (c .fans) ≡ 5
     → length (after log event room c .fans) ≡ 5
 
--- a fan but for its bits of 25h and 26h, which a read of these clears for every fan
-abbrev pub butStatus : Fan → Fan
-butStatus f = withStalled false (withFailed false f)
-
--- a sample or a wish leaves every other fan as it was; a transfer every fan to whose registers it stores nothing, but for what a read clears
+-- a sample or a wish leaves every other fan as it was; a transfer every fan to whose registers it stores nothing, but for what a read does to status bits
 abbrev pub OtherFans : Type 0
 OtherFans =
     (c : Chip) (log : List ℕ) (room i : ℕ)

@@ -1,4 +1,4 @@
--- What a theorem says of an event: whether it stores to a fan's registers, and whether it is a sample, or a wish for a fan.
+-- What a theorem says of an event: whether it stores to a fan's registers, and whether it is a sample, or a sample or a wish for a fan.
 use mathlib.Core.Bool.{Bool, true, false, cond, _&&_, _||_}
 use mathlib.Core.List.{List, [], _∷_}
 use Prim.Native.Nat.{ℕ, _+_}
@@ -36,6 +36,10 @@ storesTo i log event c =
 -- an event is a sample
 abbrev pub isSample : Event → Bool
 isSample = onSample false (λ fan count. true)
+
+-- an event is a sample of fan i + 1
+abbrev pub isSampleOf : ℕ → Event → Bool
+isSampleOf i = onSample false (λ fan count. eqb fan (i + 1))
 
 -- an event is a wish for fan i + 1
 abbrev pub isWishFor : ℕ → Event → Bool

@@ -12,13 +12,13 @@ use borrow.Author.Tests.{leb-true, eqb-true, eqb-false, eq-eqb, ne-eqb}
 use Rattle.laws.proofs.Lists.{map-still}
 use Rattle.laws.proofs.Tables.{entry}
 use Rattle.laws.proofs.Tests.{by-test}
+use Rattle.emc2305_fan.specs.declared.Bit.{Bit}
 use Rattle.emc2305_fan.specs.declared.Fan.{Fan}
-use Rattle.emc2305_fan.specs.State.{withStalled, withFailed}
-use Rattle.emc2305_chip.specs.declared.Bit.{Bit}
-use Rattle.emc2305_chip.specs.declared.Bit.the-variants.{Stall, Spin}
+use Rattle.emc2305_fan.specs.Status.{standing, bitRead}
+use Rattle.emc2305_fan.proofs.Statuses.{nothing-read}
 use Rattle.emc2305_chip.specs.declared.Chip.{Chip}
 use Rattle.emc2305_chip.specs.State.{withFans}
-use Rattle.emc2305_chip.specs.Fans.{noFan, fanAt, standing, bitCleared, bitsOf, interrupts, interrupting}
+use Rattle.emc2305_chip.specs.Fans.{noFan, fanAt, bitsOf, interrupts, interrupting}
 use Rattle.emc2305_chip.proofs.Ways.{flag-small}
 
 -- the weights of the bits for fans 1 to 5
@@ -55,16 +55,12 @@ none-stands which fans (suc n) i e h =
     by-test (eqb i n) (λ t. rw (eqb-true i n t) (unflagged (standing which (fanAt fans n)) (bitsOf which fans n) (2 ^ n) (one-le-pow n 2 (omega arith)) e))
     (λ t. none-stands which fans n i (omega arith) (omega (arith, eqb-false i n t)))
 
--- so that clearing the bits changes nothing
-uncleared : (which : Bit) (f : Fan) → standing which f ≡ false → bitCleared which f ≡ f
-uncleared Stall f e = ap (λ (b : Bool). withStalled b f) (sym e)
-uncleared Spin f e = ap (λ (b : Bool). withFailed b f) (sym e)
-
-pub none-cleared : (which : Bit) (c : Chip) {k : ℕ} → k ≡ length (c .fans) → k ≡ 5 → bitsOf which (c .fans) 5 ≡ 0
-    → c ≡ withFans (map (bitCleared which) (c .fans)) c
-none-cleared which c h five e =
+-- so that a read changes nothing
+pub none-read : (which : Bit) (c : Chip) {k : ℕ} → k ≡ length (c .fans) → k ≡ 5 → bitsOf which (c .fans) 5 ≡ 0
+    → c ≡ withFans (map (bitRead which) (c .fans)) c
+none-read which c h five e =
     ap (λ (l : List Fan). withFans l c)
-    (sym (map-still (bitCleared which) (c .fans) noFan (λ i k. uncleared which (fanAt (c .fans) i) (none-stands which (c .fans) 5 i e (omega arith)))))
+    (sym (map-still (bitRead which) (c .fans) noFan (λ i k. nothing-read which (fanAt (c .fans) i) (none-stands which (c .fans) 5 i e (omega arith)))))
 
 -- one fan more
 module _ (which : Bit) (fans : List Fan) (i byte w : ℕ) (b : Bool) (sofar : byte ≡ bitsOf which fans i) (weighed : w ≡ cond b (2 ^ i) 0) where

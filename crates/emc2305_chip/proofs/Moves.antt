@@ -7,25 +7,24 @@ use lib.ListN.{length, set, length-map}
 use Rattle.laws.specs.Repeat.{repeated}
 use Rattle.laws.proofs.Repeat.{repeated-keeps}
 use Rattle.laws.proofs.Tests.{by-test}
+use Rattle.emc2305_fan.specs.declared.Bit.{Bit}
+use Rattle.emc2305_fan.specs.declared.Bit.the-variants.{Stall, Spin}
 use Rattle.emc2305_fan.specs.declared.Fan.{Fan}
 use Rattle.emc2305_fan.specs.Tick.{ticked}
 use Rattle.emc2305_fan.specs.Tach.{fired}
+use Rattle.emc2305_fan.specs.Status.{bitRead}
 use Rattle.emc2305_watchdog.specs.Watch.{fires}
-use Rattle.emc2305_chip.specs.declared.Bit.{Bit}
-use Rattle.emc2305_chip.specs.declared.Bit.the-variants.{Stall, Spin}
 use Rattle.emc2305_chip.specs.declared.Chip.{Chip}
-use Rattle.emc2305_chip.specs.declared.Move.the-variants.{Clear}
 use Rattle.emc2305_chip.specs.declared.Register.{Register}
 use Rattle.emc2305_chip.specs.declared.Register.the-variants.{Configuration, Status, StallStatus, SpinStatus, DriveFailStatus, Enable, Output, OfFan, Lock, Identity, Undefined}
 use Rattle.emc2305_chip.specs.State.{withFans, withEnable, withOutputs, withLock, withExpired}
 use Rattle.emc2305_chip.specs.Map.{registerOf}
-use Rattle.emc2305_chip.specs.Fans.{moveOf}
 use Rattle.emc2305_chip.specs.Registers.{clearedOf, storesAt, storedOf, fanStored, writtenAt}
 use Rattle.emc2305_chip.specs.Ticks.{allFired, allTicked, chipTicked}
 
 module _ {B : Type 0} (v : Chip → B) where
   -- a read, of each register
-  pub cleared-keeps : (c : Chip) → v (withExpired false c) ≡ v c → ((which : Bit) → v (withFans (map (moveOf (Clear which)) (c .fans)) c) ≡ v c)
+  pub cleared-keeps : (c : Chip) → v (withExpired false c) ≡ v c → ((which : Bit) → v (withFans (map (bitRead which) (c .fans)) c) ≡ v c)
       → (register : Register) → v (clearedOf register c) ≡ v c
   cleared-keeps c e f Configuration = refl
   cleared-keeps c e f Status = e

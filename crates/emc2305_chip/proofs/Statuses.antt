@@ -1,22 +1,25 @@
 -- Where the fans' registers stand, the status bytes and what clears them, the alert line.
 use mathlib.Core.Path.{_≡_, refl, sym, ap, ap₂, _∙_}
-use mathlib.Core.Bool.{Bool, true, false, cond, not, _||_, false≢true, or-true}
+use mathlib.Core.Bool.{Bool, true, false, cond, not, _&&_, _||_, false≢true, or-true}
 use mathlib.Core.List.{List, map}
 use Prim.Native.Nat.{ℕ, zero, suc, _+_, _*_, _<_}
 use native.Mathlib.Omega.{arith}
 use native.Mathlib.Nat.{add-zero, div-eq-of-lt}
 use lib.Dec.{eqb}
-use lib.ListN.{List·getD-map}
+use lib.ListN.{getD, List·getD-map}
 use borrow.Author.Tests.{eqb-true, eqb-false}
 use Rattle.laws.proofs.Divide.{bit-below, bit-own}
 use Rattle.laws.proofs.Tests.{by-test, and-left, and-right}
+use Rattle.emc2305_fan.specs.declared.Bit.{Bit}
+use Rattle.emc2305_fan.specs.declared.Bit.the-variants.{Stall, Spin}
 use Rattle.emc2305_fan.specs.declared.Fan.{Fan}
+use Rattle.emc2305_fan.specs.Spin.{tooSlow}
 use Rattle.emc2305_fan.specs.Registers.{bit}
-use Rattle.emc2305_chip.specs.declared.Bit.{Bit}
-use Rattle.emc2305_chip.specs.declared.Bit.the-variants.{Stall, Spin}
+use Rattle.emc2305_fan.specs.Status.{standing, other, stuck, bitRead}
+use Rattle.emc2305_fan.proofs.Statuses.{status-read}
 use Rattle.emc2305_chip.specs.declared.Register.the-variants.{OfFan}
 use Rattle.emc2305_chip.specs.Map.{registerOf}
-use Rattle.emc2305_chip.specs.Fans.{noFan, fanAt, standing, bitCleared, bitsOf, interrupts, interrupting}
+use Rattle.emc2305_chip.specs.Fans.{noFan, fanAt, bitsOf, interrupts, interrupting}
 use Rattle.emc2305_chip.specs.Registers.{stallByte, spinByte, clearedAt}
 use Rattle.emc2305_chip.specs.Promises.{FanMap, StatusBits, ReadClears, Alert}
 use Rattle.emc2305_chip.proofs.Maps.{maps-fan}
@@ -68,32 +71,40 @@ status-bits c =
       s .2,
     )
 
--- fans of which none has the bit, and fans that have the same bits
-bits-none : (which : Bit) (fans : List Fan) → ((i : ℕ) → standing which (fanAt fans i) ≡ false) → (n : ℕ) → bitsOf which fans n ≡ 0
-unfolding bitsOf
-bits-none which fans h zero = refl
-bits-none which fans h (suc n) = rw (bits-none which fans h n, h n)
-
+-- fans that have the same bits
 bits-same : (which : Bit) (fans others : List Fan) → ((i : ℕ) → standing which (fanAt fans i) ≡ standing which (fanAt others i))
     → (n : ℕ) → bitsOf which fans n ≡ bitsOf which others n
 unfolding bitsOf
 bits-same which fans others h zero = refl
 bits-same which fans others h (suc n) = rw (bits-same which fans others h n, h n)
 
--- a fan's status, one of the two cleared for every fan
-cleared-at : (which other : Bit) (fans : List Fan) (i : ℕ)
-    → standing which (fanAt (map (bitCleared other) fans) i) ≡ standing which (bitCleared other (fanAt fans i))
-cleared-at which Stall fans i = ap (standing which) (List·getD-map (bitCleared Stall) fans i noFan)
-cleared-at which Spin fans i = ap (standing which) (List·getD-map (bitCleared Spin) fans i noFan)
+-- a fan, one of 25h and 26h read for every fan; none stands past the fifth, and none of it changes
+no-fan-read : (which : Bit) → bitRead which noFan ≡ noFan
+unfolding bitRead stuck tooSlow
+no-fan-read Stall = refl
+no-fan-read Spin = refl
+
+read-at : (which : Bit) (fans : List Fan) (i : ℕ) → fanAt (map (bitRead which) fans) i ≡ bitRead which (fanAt fans i)
+read-at which fans i = ap (getD (map (bitRead which) fans) i) (sym (no-fan-read which)) ∙ List·getD-map (bitRead which) fans i noFan
+
+-- a bit of what is read, and the bits of the other
+own-bit : (which : Bit) (fans : List Fan) (i : ℕ) → i < 5
+    → bit i (bitsOf which (map (bitRead which) fans) 5) ≡ (bit i (bitsOf which fans 5) && stuck (fanAt fans i))
+own-bit which fans i h =
+    bits-at which (map (bitRead which) fans) i 5 h ∙ ap (standing which) (read-at which fans i) ∙ status-read which (fanAt fans i) .0
+    ∙ rw (bits-at which fans i 5 h)
+
+other-bits : (which : Bit) (fans : List Fan) → bitsOf (other which) (map (bitRead which) fans) 5 ≡ bitsOf (other which) fans 5
+other-bits which fans =
+    bits-same (other which) _ fans (λ i. ap (standing (other which)) (read-at which fans i) ∙ status-read which (fanAt fans i) .1) 5
 
 pub read-clears : ReadClears
 unfolding clearedAt registerOf
 read-clears c = (
-  bits-none Stall _ (cleared-at Stall Stall (c .fans)) 5,
-  bits-same Spin _ (c .fans) (cleared-at Spin Stall (c .fans)) 5,
+  λ i h. (own-bit Stall (c .fans) i h, own-bit Spin (c .fans) i h),
+  other-bits Stall (c .fans),
   refl,
-  bits-none Spin _ (cleared-at Spin Spin (c .fans)) 5,
-  bits-same Stall _ (c .fans) (cleared-at Stall Spin (c .fans)) 5,
+  other-bits Spin (c .fans),
   refl,
   refl,
   refl,

@@ -4,15 +4,14 @@ use mathlib.Core.List.{List, []}
 use Prim.Native.Nat.{ℕ, zero, suc, _+_, _^_}
 use lib.ListN.{getD}
 use Rattle.laws.specs.Repeat.{repeated}
+use Rattle.emc2305_fan.specs.declared.Bit.{Bit}
 use Rattle.emc2305_fan.specs.declared.Fan.{Fan}
-use Rattle.emc2305_fan.specs.State.{withStalled, withFailed}
 use Rattle.emc2305_fan.specs.Registers.{bit, noSpin, powerOn}
 use Rattle.emc2305_fan.specs.Tick.{ticked, busy}
 use Rattle.emc2305_fan.specs.Tach.{fired}
-use Rattle.emc2305_chip.specs.declared.Bit.{Bit}
-use Rattle.emc2305_chip.specs.declared.Bit.the-variants.{Stall, Spin}
+use Rattle.emc2305_fan.specs.Status.{standing, bitRead}
 use Rattle.emc2305_chip.specs.declared.Move.{Move}
-use Rattle.emc2305_chip.specs.declared.Move.the-variants.{PowerOn, Ticks, Watchdog, Clear}
+use Rattle.emc2305_chip.specs.declared.Move.the-variants.{PowerOn, Ticks, Watchdog, Read}
 
 -- past the fifth fan there is none: an empty one stands for it
 abbrev pub noFan : Fan
@@ -22,22 +21,12 @@ noFan = record { registers = []; drive = 0; wish = 0; clock = 0; spin = noSpin; 
 abbrev pub fanAt : List Fan → ℕ → Fan
 fanAt fans i = getD fans i noFan
 
--- the status bits of a fan: 25h stall, 26h spin
-abbrev pub standing : Bit → Fan → Bool
-standing Stall f = f .stalled
-standing Spin f = f .failed
-
--- a fan with one of its status bits cleared
-abbrev pub bitCleared : Bit → Fan → Fan
-bitCleared Stall f = withStalled false f
-bitCleared Spin f = withFailed false f
-
--- what happens to all five alike: power-on, n ticks, the watchdog's firing, a status bit cleared
+-- what happens to all five alike: power-on, n ticks, the watchdog's firing, a read of 25h or of 26h
 abbrev pub moveOf : Move → Fan → Fan
 moveOf PowerOn f = powerOn
 moveOf (Ticks n) f = repeated n ticked f
 moveOf Watchdog f = fired f
-moveOf (Clear bit) f = bitCleared bit f
+moveOf (Read which) f = bitRead which f
 
 -- one of the first n fans has something to do in a tick
 unfoldable pub anyBusy : List Fan → ℕ → Bool

@@ -1,7 +1,7 @@
 -- What is promised of the chip's registers and ticks. docs/CLAIMS.md names the file of each proof.
 use mathlib.Core.Path.{_≡_}
 use mathlib.Core.Logic.{_↔_}
-use mathlib.Core.Bool.{true, false, cond, not, _||_}
+use mathlib.Core.Bool.{true, false, cond, not, _&&_, _||_}
 use mathlib.Core.List.{List, [], _∷_, _++_}
 use Prim.Native.Nat.{ℕ, zero, suc, _+_, _-_, _*_, _/_, _%_, _<_}
 use lib.Dec.{eqb}
@@ -11,6 +11,7 @@ use Rattle.emc2305_fan.specs.declared.Fan.{Fan}
 use Rattle.emc2305_fan.specs.Registers.{bit}
 use Rattle.emc2305_fan.specs.Tick.{ticked}
 use Rattle.emc2305_fan.specs.Tach.{fired}
+use Rattle.emc2305_fan.specs.Status.{stuck}
 use Rattle.emc2305_watchdog.specs.declared.Watch.the-variants.{Off}
 use Rattle.emc2305_watchdog.specs.Watch.{fires, watchTicked, programmed, configured}
 use Rattle.emc2305_chip.specs.declared.Chip.{Chip}
@@ -113,12 +114,15 @@ StatusBits =
     × (bit 1 (statusByte c) ≡ not (eqb (spinByte c) 0))
     × (bit 0 (statusByte c) ≡ not (eqb (stallByte c) 0))
 
--- reading 25h or 26h clears all its bits and no other; reading 24h clears WATCH alone
+-- after a read of 25h or 26h a bit there stands exactly when it stood and its fan is stuck, and no other bit has changed; reading 24h clears WATCH alone
 abbrev pub ReadClears : Type 0
 ReadClears =
     (c : Chip)
-    → (stallByte (clearedAt 0x25 c) ≡ 0) × (spinByte (clearedAt 0x25 c) ≡ spinByte c) × (clearedAt 0x25 c .expired ≡ c .expired)
-    × (spinByte (clearedAt 0x26 c) ≡ 0) × (stallByte (clearedAt 0x26 c) ≡ stallByte c) × (clearedAt 0x26 c .expired ≡ c .expired)
+    → ((i : ℕ) → i < 5
+    → (bit i (stallByte (clearedAt 0x25 c)) ≡ (bit i (stallByte c) && stuck (fanAt (c .fans) i)))
+    × (bit i (spinByte (clearedAt 0x26 c)) ≡ (bit i (spinByte c) && stuck (fanAt (c .fans) i))))
+    × (spinByte (clearedAt 0x25 c) ≡ spinByte c) × (clearedAt 0x25 c .expired ≡ c .expired)
+    × (stallByte (clearedAt 0x26 c) ≡ stallByte c) × (clearedAt 0x26 c .expired ≡ c .expired)
     × (clearedAt 0x24 c .expired ≡ false) × (stallByte (clearedAt 0x24 c) ≡ stallByte c) × (spinByte (clearedAt 0x24 c) ≡ spinByte c)
 
 -- the alert line: MASK is 0, and WATCH is set or some fan has a bit and is enabled

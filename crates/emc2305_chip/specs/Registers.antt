@@ -4,17 +4,18 @@ use mathlib.Core.List.{List, [], _∷_, map}
 use Prim.Native.Nat.{ℕ, _+_}
 use lib.Dec.{eqb}
 use lib.ListN.{getD, set}
+use Rattle.emc2305_fan.specs.declared.Bit.the-variants.{Stall, Spin}
 use Rattle.emc2305_fan.specs.declared.Fan.{Fan}
 use Rattle.emc2305_fan.specs.Registers.{bit, powerOn, shown, stores, locked}
 use Rattle.emc2305_fan.specs.Stored.{written}
+use Rattle.emc2305_fan.specs.Status.{bitRead}
 use Rattle.emc2305_watchdog.specs.declared.Watch.the-variants.{PowerUp}
 use Rattle.emc2305_chip.specs.declared.Chip.{Chip}
-use Rattle.emc2305_chip.specs.declared.Bit.the-variants.{Stall, Spin}
 use Rattle.emc2305_chip.specs.declared.Register.{Register}
 use Rattle.emc2305_chip.specs.declared.Register.the-variants.{Configuration, Status, StallStatus, SpinStatus, DriveFailStatus, Enable, Output, OfFan, Lock, Identity, Undefined}
 use Rattle.emc2305_chip.specs.State.{withFans, withConfiguration, withEnable, withOutputs, withLock, withExpired}
 use Rattle.emc2305_chip.specs.Map.{registerOf}
-use Rattle.emc2305_chip.specs.Fans.{fanAt, bitCleared, bitsOf, interrupting}
+use Rattle.emc2305_chip.specs.Fans.{fanAt, bitsOf, interrupting}
 use Rattle.emc2305_chip.specs.Watching.{programmedBy, configuredBy}
 
 -- every default, unlocked; pointer and status 0; the power-up watch starts
@@ -75,12 +76,12 @@ shownOf c Lock = c .lock
 shownOf c (Identity i) = getD identity i 0
 shownOf c Undefined = 0x00
 
--- reading 25h or 26h clears all its bits; reading 24h clears WATCH
+-- reading 25h or 26h clears the bit there of each fan that is not stuck; reading 24h clears WATCH
 abbrev pub clearedOf : Register → Chip → Chip
 clearedOf Configuration c = c
 clearedOf Status c = withExpired false c
-clearedOf StallStatus c = withFans (map (bitCleared Stall) (c .fans)) c
-clearedOf SpinStatus c = withFans (map (bitCleared Spin) (c .fans)) c
+clearedOf StallStatus c = withFans (map (bitRead Stall) (c .fans)) c
+clearedOf SpinStatus c = withFans (map (bitRead Spin) (c .fans)) c
 clearedOf DriveFailStatus c = c
 clearedOf Enable c = c
 clearedOf (Output i) c = c

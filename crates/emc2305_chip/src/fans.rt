@@ -1,13 +1,13 @@
 // The five fans side by side: what happens to all of them, and their status bits.
-use crate::Bit;
 use crate::FANS;
 use crate::Move;
+use emc2305_fan::Bit;
 use emc2305_fan::Fan;
 ghost use mathlib.Core.Path.{_≡_};
 ghost use mathlib.Core.Bool.{cond};
 ghost use mathlib.Core.List.{map};
 ghost use Prim.Native.Nat.{_<_, _^_};
-ghost use Rattle.emc2305_chip.specs.Fans.{bitCleared, moveOf, standing, bitsOf, interrupts, interrupting, anyBusy};
+ghost use Rattle.emc2305_chip.specs.Fans.{moveOf, bitsOf, interrupts, interrupting, anyBusy};
 
 // The weights of the bits for fans 1 to 5.
 const WEIGHTS: [u8; 5] = [0x01, 0x02, 0x04, 0x08, 0x10];
@@ -33,7 +33,7 @@ fn move_of(fan: Fan, what: Move) -> Fan
         Move::PowerOn => Fan::power_on(),
         Move::Ticks(count) => fan.ticks(count),
         Move::Watchdog => fan.fired(),
-        Move::Clear(bit) => bit_cleared(fan, bit),
+        Move::Read(bit) => fan.bit_read(bit),
     }
 }
 
@@ -51,32 +51,6 @@ pub(crate) fn any_busy(fans: [Fan; 5]) -> bool
     on
 }
 
-// A fan with one of its bits cleared.
-fn bit_cleared(mut fan: Fan, bit: Bit) -> Fan
-    ensures { λ r. ⌜ r ≡ bitCleared bit fan ⌝ }
-{
-    match bit {
-        Bit::Stall => {
-            fan.stalled = false;
-            fan
-        }
-        Bit::Spin => {
-            fan.failed = false;
-            fan
-        }
-    }
-}
-
-// Whether a status bit of the fan stands.
-fn standing(fan: Fan, bit: Bit) -> bool
-    ensures { λ r. ⌜ r ≡ standing bit fan ⌝ }
-{
-    match bit {
-        Bit::Stall => fan.stalled,
-        Bit::Spin => fan.failed,
-    }
-}
-
 // 25h or 26h: bit i - 1 for fan i.
 pub(crate) fn bits_of(fans: [Fan; 5], bit: Bit) -> u8
     ensures { λ r. ⌜ r ≡ bitsOf bit fans 5 ⌝ }
@@ -85,7 +59,7 @@ pub(crate) fn bits_of(fans: [Fan; 5], bit: Bit) -> u8
     let mut i = 0;
     while i < FANS {
         let fan = fans[i];
-        byte = byte + weighed(standing(fan, bit), i);
+        byte = byte + weighed(fan.stands(bit), i);
         i += 1;
     }
     byte

@@ -7,6 +7,7 @@ mod status;
 mod ticks;
 mod watching;
 
+use emc2305_fan::Bit;
 use emc2305_fan::Fan;
 use emc2305_watchdog::Watch;
 pub use map::is_cleared;
@@ -69,13 +70,8 @@ pub enum Move {
     PowerOn,
     Ticks(u16),
     Watchdog,
-    Clear(Bit),
-}
-
-// The two status bits of a fan: that of 25h and that of 26h.
-pub enum Bit {
-    Stall,
-    Spin,
+    // A read of 25h or of 26h.
+    Read(Bit),
 }
 
 impl Chip {

@@ -1,10 +1,10 @@
 // Reading and writing one register.
-use crate::Bit;
 use crate::Chip;
 use crate::Move;
 use crate::Register;
 use crate::fans;
 use crate::map;
+use emc2305_fan::Bit;
 use emc2305_fan::Fan;
 ghost use mathlib.Core.Path.{_≡_};
 ghost use mathlib.Core.Bool.{_&&_};
@@ -12,9 +12,9 @@ ghost use mathlib.Core.List.{map};
 ghost use Prim.Native.Nat.{_<_};
 ghost use lib.ListN.{getD, set};
 ghost use Rattle.emc2305_fan.specs.Registers.{bit, locked};
+ghost use Rattle.emc2305_fan.specs.Status.{bitRead};
 ghost use Rattle.emc2305_chip.specs.State.{withFans, withOutputs};
 ghost use Rattle.emc2305_chip.specs.Map.{registerOf};
-ghost use Rattle.emc2305_chip.specs.Fans.{bitCleared};
 ghost use Rattle.emc2305_chip.specs.Registers.{identity, shownAt, clearedAt, isLocked, guarded, writableIn, storesAt, fanStores, fanStored, storedOf, writtenAt};
 
 // The identity bytes, from FCh on: product features, product, manufacturer, revision.
@@ -52,8 +52,8 @@ impl Chip {
                 self.expired = false;
                 self
             }
-            Register::StallStatus => self.bits_cleared(Bit::Stall),
-            Register::SpinStatus => self.bits_cleared(Bit::Spin),
+            Register::StallStatus => self.bits_read(Bit::Stall),
+            Register::SpinStatus => self.bits_read(Bit::Spin),
             // No other read clears anything.
             _ => self,
         }
@@ -99,15 +99,15 @@ impl Chip {
         }
     }
 
-    // All bits of 25h or of 26h cleared; mostly none stands.
-    fn bits_cleared(self, bit: Bit) -> Chip
-        ensures { λ r. ⌜ r ≡ withFans (map (bitCleared bit) (self .fans)) self ⌝ }
+    // A read of 25h or of 26h, fan by fan; mostly no bit stands.
+    fn bits_read(self, bit: Bit) -> Chip
+        ensures { λ r. ⌜ r ≡ withFans (map (bitRead bit) (self .fans)) self ⌝ }
     {
         let all = self.fans;
         if fans::bits_of(all, bit) == 0 {
             self
         } else {
-            self.with_fans(fans::each(all, Move::Clear(bit)))
+            self.with_fans(fans::each(all, Move::Read(bit)))
         }
     }
 

@@ -1,7 +1,7 @@
 // The status registers and the alert line.
-use crate::Bit;
 use crate::Chip;
 use crate::fans;
+use emc2305_fan::Bit;
 ghost use mathlib.Core.Path.{_≡_};
 ghost use mathlib.Core.Bool.{cond};
 ghost use Rattle.emc2305_chip.specs.Registers.{stallByte, spinByte, statusByte, alertLine};

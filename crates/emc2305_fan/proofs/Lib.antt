@@ -5,4 +5,5 @@ pub mod Ramps
 pub mod Ticks
 pub mod Spins
 pub mod Kept
+pub mod Statuses
 pub mod Promises

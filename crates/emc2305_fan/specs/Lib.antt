@@ -7,4 +7,5 @@ pub mod Spin
 pub mod Tick
 pub mod Stored
 pub mod Tach
+pub mod Status
 pub mod Promises

@@ -2,10 +2,11 @@
 use Prim.Native.Nat.{ℕ, _+_, _-_, _*_, _/_, _%_, min, _≤_, _<_}
 use mathlib.Core.Path.{_≡_}
 use mathlib.Core.Logic.{_↔_}
-use mathlib.Core.Bool.{Bool, true, false, cond, _||_}
+use mathlib.Core.Bool.{Bool, true, false, cond, _&&_, _||_}
 use mathlib.Core.List.{List, [], _∷_}
 use lib.ListN.{getD, set}
 use Rattle.laws.specs.Repeat.{repeated}
+use Rattle.emc2305_fan.specs.declared.Bit.{Bit}
 use Rattle.emc2305_fan.specs.declared.Fan.{Fan}
 use Rattle.emc2305_fan.specs.declared.SpinUp.{SpinUp}
 use Rattle.emc2305_fan.specs.Tables.{periods, lengths, levels}
@@ -17,6 +18,7 @@ use Rattle.emc2305_fan.specs.Spin.{spinLength, spinLevel, spinOn, inSpin
 use Rattle.emc2305_fan.specs.Tick.{ticked}
 use Rattle.emc2305_fan.specs.Stored.{written}
 use Rattle.emc2305_fan.specs.Tach.{countHigh, countLow, sampled, fired}
+use Rattle.emc2305_fan.specs.Status.{standing, other, butStatus, stuck, bitRead}
 
 -- the levels are 30 to 65 percent of 255, rounded down, in steps of 5
 abbrev pub LevelRule : Type 0
@@ -151,6 +153,28 @@ RegistersAfter =
     × ((offset byte : ℕ) → written offset byte f .registers ≡ cond (stores f offset) (set (f .registers) offset byte) (f .registers))
     × ((count : ℕ) (watch : Bool) → sampled count watch f .registers ≡ set (set (f .registers) 0xE (countHigh count)) 0xF (countLow count))
     × (fired f .registers ≡ set (set (f .registers) 0x0 0xFF) 0x2 (configuration1 f % 128))
+
+-- what each move leaves of the status bits: a spin-up that fails sets that of 26h, a stall that of 25h, and no move clears one; a wish, a write and the
+-- watchdog leave both
+abbrev pub StatusAfter : Type 0
+StatusAfter =
+    (f : Fan)
+    → (ticked f .stalled ≡ f .stalled)
+    × (f .failed ≡ true → ticked f .failed ≡ true)
+    × ((f .spin .running ≡ true → tooSlow f ≡ false) → ticked f .failed ≡ f .failed)
+    × ((count : ℕ) (watch : Bool) → (sampled count watch f .failed ≡ f .failed) × (f .stalled ≡ true → sampled count watch f .stalled ≡ true))
+    × ((which : Bit)
+    → ((wish : ℕ) → standing which (wished wish f) ≡ standing which f)
+    × ((offset byte : ℕ) → standing which (written offset byte f) ≡ standing which f)
+    × (standing which (fired f) ≡ standing which f))
+
+-- a read of 25h or of 26h: the fan's bit there stands afterwards exactly when it stood and the fan is stuck; the other bit and all else stay
+abbrev pub StatusRead : Type 0
+StatusRead =
+    (which : Bit) (f : Fan)
+    → (standing which (bitRead which f) ≡ (standing which f && stuck f))
+    × (standing (other which) (bitRead which f) ≡ standing (other which) f)
+    × (butStatus (bitRead which f) ≡ butStatus f)
 
 -- the reading registers of a count up to 8191 are the count times 8, their high byte c / 32
 abbrev pub ReadingRule : Type 0

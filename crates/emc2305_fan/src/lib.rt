@@ -2,6 +2,7 @@
 mod drive;
 mod registers;
 mod spin_up;
+mod status;
 mod stored;
 mod tables;
 mod tach;
@@ -49,6 +50,12 @@ pub struct SpinUp {
     pub length: u8,
     pub kick: bool,
     pub level: u8,
+}
+
+// The two status bits of a fan: that of 25h and that of 26h.
+pub enum Bit {
+    Stall,
+    Spin,
 }
 
 // The state of one fan.

@@ -1,6 +1,7 @@
 // The commands: each takes the fan and its bytes, writes what it did, and hands the fan back.
 use crate::show;
 use crate::wide;
+use emc2305_fan::Bit;
 use emc2305_fan::Fan;
 use emc2305_fan::SpinUp;
 
@@ -22,6 +23,7 @@ pub fn act(fan: Fan, which: u8, data: &[u8]) -> Fan {
         ),
         b'v' => wish(fan, field(data, 0)),
         b'd' => fired(fan),
+        b'c' => bit_read(fan, field(data, 0) != 0),
         _ => tell(fan, which, data),
     }
 }
@@ -165,6 +167,22 @@ fn wish(fan: Fan, drive: u8) -> Fan {
 fn fired(fan: Fan) -> Fan {
     let next = fan.fired();
     show::text(b"watchdog");
+    show::state(next);
+    next
+}
+
+// A read of 25h, or of 26h.
+fn bit_read(fan: Fan, of_spin: bool) -> Fan {
+    let next = if of_spin {
+        fan.bit_read(Bit::Spin)
+    } else {
+        fan.bit_read(Bit::Stall)
+    };
+    if of_spin {
+        show::text(b"read 26h");
+    } else {
+        show::text(b"read 25h");
+    }
     show::state(next);
     next
 }

@@ -1,4 +1,5 @@
 // Text on standard output: numbers, the state of a fan, its registers.
+use emc2305_fan::Bit;
 use emc2305_fan::Fan;
 use libc::STDOUT_FILENO;
 
@@ -65,8 +66,9 @@ pub fn state(fan: Fan) {
     three(fan.goal(), fan.step(), fan.period());
     word_if(spin.running, b" running");
     word_if(spin.kick, b" kick");
-    word_if(fan.stalled, b" stalled");
-    word_if(fan.failed, b" failed");
+    word_if(fan.stands(Bit::Stall), b" stalled");
+    word_if(fan.stands(Bit::Spin), b" failed");
+    word_if(fan.is_stuck(), b" stuck");
     word_if(fan.in_spin_up(), b" spin-up");
     word_if(fan.under_ramp(), b" ramp");
     word_if(fan.closed_loop(), b" loop");

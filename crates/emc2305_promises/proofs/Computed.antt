@@ -1,4 +1,4 @@
--- What is shown by computing alone: document 01's examples, and the sequences and the log of specs/Busy.antt.
+-- What is shown by computing alone: document 01's examples, the sequences and the log of specs/Busy.antt, the log of specs/Held.antt.
 use mathlib.Core.Path.{refl}
 use native.Mathlib.Omega.{arith}
 use Rattle.laws.specs.Repeat.{repeated}
@@ -11,6 +11,7 @@ use Rattle.emc2305_fan.specs.Spin.{spinDrive, started, tooSlow, spinFailed, spi
 use Rattle.emc2305_fan.specs.Tick.{updated, clockTicked, ticked}
 use Rattle.emc2305_fan.specs.Stored.{wishTaken, clockSet, settled, written}
 use Rattle.emc2305_fan.specs.Tach.{withReading, stall, sampled, fired}
+use Rattle.emc2305_fan.specs.Status.{stuck, bitRead}
 use Rattle.emc2305_chip.specs.Map.{registerOf}
 use Rattle.emc2305_chip.specs.Fans.{bitsOf}
 use Rattle.emc2305_chip.specs.Registers.{atDefaults, fanStored, shownAt, clearedAt, storesAt, writtenAt}
@@ -23,6 +24,7 @@ use Rattle.walks.specs.Run.{runOver, ended, runOf}
 use Rattle.walks.specs.Sequence as any
 use Rattle.emc2305_promises.specs.Corollaries.{updatesIn, updatesMade}
 use Rattle.emc2305_promises.specs.Busy.{numbersOf, BusyRamp, ClosedRamp, TraceRamp}
+use Rattle.emc2305_promises.specs.Held.{HeldTrace}
 use Rattle.emc2305_promises.specs.Examples.{Examples}
 
 pub examples-hold : Examples
@@ -30,7 +32,7 @@ unfolding repeated rangeNumber readAt locked shown stores powerOn moved goal und
 examples-hold = refl
 
 pub busy-ramp : BusyRamp
-unfolding repeated rangeNumber locked stores powerOn moved goal underRamp wished spinDrive started tooSlow spinFailed spinOver spinTick updated clockTicked ticked wishTaken clockSet settled written withReading stall sampled registerOf atDefaults fanStored storesAt writtenAt clearedAt pointerPast byteWritten inTurn sent byteRead allFired allTicked chipTicked stepNumber taken stepped anyStoresTo sentStoresTo any.afterAll any.throughout any.takenTicks updatesIn updatesMade numbersOf
+unfolding repeated rangeNumber locked stores powerOn moved goal underRamp wished spinDrive started tooSlow spinFailed spinOver spinTick updated clockTicked ticked wishTaken clockSet settled written withReading stall sampled stuck bitRead registerOf atDefaults fanStored storesAt writtenAt clearedAt pointerPast byteWritten inTurn sent byteRead allFired allTicked chipTicked stepNumber taken stepped anyStoresTo sentStoresTo any.afterAll any.throughout any.takenTicks updatesIn updatesMade numbersOf
 busy-ramp = ((refl, refl, refl, refl, refl, refl, refl, omega arith), refl, refl, refl, refl, refl, refl)
 
 pub closed-ramp : ClosedRamp
@@ -38,5 +40,9 @@ unfolding repeated rangeNumber locked stores powerOn moved goal underRamp wished
 closed-ramp = (refl, (refl, refl, refl, refl, refl, refl, refl, omega arith), refl, refl, refl, refl)
 
 pub trace-ramp : TraceRamp
-unfolding repeated rangeNumber readAt locked shown stores powerOn moved goal underRamp wished spinDrive started tooSlow spinFailed spinOver spinTick updated clockTicked ticked wishTaken clockSet settled written withReading stall sampled registerOf atDefaults fanStored shownAt storesAt writtenAt clearedAt pointerPast byteWritten inTurn sent byteRead replyOf allFired allTicked chipTicked stepNumber taken replyTo stepped anyStoresTo sentStoresTo recordsFrom recordsOf runOver ended runOf any.walkOver any.handedOver any.afterAll any.throughout any.takenTicks
+unfolding repeated rangeNumber readAt locked shown stores powerOn moved goal underRamp wished spinDrive started tooSlow spinFailed spinOver spinTick updated clockTicked ticked wishTaken clockSet settled written withReading stall sampled stuck bitRead registerOf atDefaults fanStored shownAt storesAt writtenAt clearedAt pointerPast byteWritten inTurn sent byteRead replyOf allFired allTicked chipTicked stepNumber taken replyTo stepped anyStoresTo sentStoresTo recordsFrom recordsOf runOver ended runOf any.walkOver any.handedOver any.afterAll any.throughout any.takenTicks
 trace-ramp = ((refl, refl, refl, refl, refl, refl, refl, omega arith), refl, refl, refl, refl, refl)
+
+pub held-trace : HeldTrace
+unfolding repeated rangeNumber readAt locked shown stores powerOn moved goal underRamp wished spinDrive started tooSlow spinFailed spinOver spinTick updated clockTicked ticked wishTaken clockSet settled written withReading stall sampled stuck bitRead registerOf bitsOf atDefaults fanStored shownAt storesAt writtenAt clearedAt pointerPast byteWritten inTurn sent byteRead replyOf allFired allTicked chipTicked stepNumber taken replyTo stepped anyStoresTo sentStoresTo recordsFrom recordsOf runOver ended runOf any.walkOver any.handedOver any.afterAll any.throughout
+held-trace = (refl, refl, refl, refl)

@@ -6,6 +6,9 @@ pub mod Parts
 pub mod OwnBytes
 pub mod OwnTraffic
 pub mod Statuses
+pub mod LeftAlone
+pub mod StatusReads
+pub mod Held
 pub mod Bare
 pub mod Neighbours
 pub mod Computed

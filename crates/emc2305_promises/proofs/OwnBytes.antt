@@ -10,13 +10,14 @@ use Rattle.laws.specs.Repeat.{repeated}
 use Rattle.laws.proofs.Lists.{getD-map}
 use Rattle.laws.proofs.Repeat.{repeated-keeps}
 use Rattle.laws.proofs.Tests.{by-test}
+use Rattle.emc2305_fan.specs.declared.Bit.the-variants.{Stall, Spin}
 use Rattle.emc2305_fan.specs.declared.Fan.{Fan}
-use Rattle.emc2305_chip.specs.declared.Bit.the-variants.{Stall, Spin}
+use Rattle.emc2305_fan.specs.Status.{bitRead}
 use Rattle.emc2305_chip.specs.declared.Chip.{Chip}
 use Rattle.emc2305_chip.specs.declared.Register.{Register}
 use Rattle.emc2305_chip.specs.State.{withPointer}
 use Rattle.emc2305_chip.specs.Map.{within, registerOf, isOfFan}
-use Rattle.emc2305_chip.specs.Fans.{noFan, bitCleared}
+use Rattle.emc2305_chip.specs.Fans.{noFan}
 use Rattle.emc2305_chip.specs.Registers.{onFan, fanStored, storedOf, clearedOf, storesAt, writtenAt, clearedAt}
 use Rattle.emc2305_chip.proofs.Moves.{cleared-keeps}
 use Rattle.emc2305_chip.proofs.Promises.{one-fan}
@@ -36,7 +37,7 @@ both (own ∷ rest) second f g last e d = both rest second (moveBy own f) g last
 abbrev count : Chip → ℕ
 count c = length (c .fans)
 
-reads-count : (n k : ℕ) (c : Chip) → count (repeated k (byteRead n) c) ≡ count c
+pub reads-count : (n k : ℕ) (c : Chip) → count (repeated k (byteRead n) c) ≡ count c
 unfolding byteRead clearedAt
 reads-count n k c =
     repeated-keeps count k (byteRead n) c
@@ -101,9 +102,9 @@ module _ (i : ℕ) where
   unfolding registerOf clearedAt played
   cleared-own a c h =
       let P : Register → Type 0 = λ r. fanOf i (clearedOf r c) ≡ fanOf i c in
-      by-test (eqb a 0x25) (λ t. rw (eqb-true a 0x25 t) (getD-map (bitCleared Stall) (c .fans) i noFan h))
+      by-test (eqb a 0x25) (λ t. rw (eqb-true a 0x25 t) (getD-map (bitRead Stall) (c .fans) i noFan h))
       (λ t.
-      by-test (eqb a 0x26) (λ u. rw (eqb-true a 0x26 u) (getD-map (bitCleared Spin) (c .fans) i noFan h))
+      by-test (eqb a 0x26) (λ u. rw (eqb-true a 0x26 u) (getD-map (bitRead Spin) (c .fans) i noFan h))
       (λ u.
       rw (t, u)
       (either P (eqb a 0x20) refl
@@ -115,11 +116,14 @@ module _ (i : ℕ) where
       (either P (eqb a 0xEF) refl
       (either P (within 0xFC 0xFF a) refl refl))))))))))
 
+  pub read-own : (n : ℕ) (c : Chip) → i < length (c .fans) → fanOf i (byteRead n c) ≡ played (ofRead (c .pointer)) (fanOf i c)
+  unfolding byteRead
+  read-own n c h = passed-keeps (fanOf i) n (clearedAt (c .pointer) c) (λ q. refl) ∙ cleared-own (c .pointer) c h
+
   pub reads-own : (n k : ℕ) (c : Chip) → i < length (c .fans)
       → fanOf i (repeated k (byteRead n) c) ≡ played (ofReads n k c) (fanOf i c)
-  unfolding repeated byteRead ofReads played
+  unfolding repeated ofReads played
   reads-own n zero c h = refl
   reads-own n (suc k) c h =
       let d = repeated k (byteRead n) c in
-      both (ofReads n k c) (ofRead (d .pointer)) (fanOf i c) (fanOf i d) _ (reads-own n k c h)
-      (passed-keeps (fanOf i) n (clearedAt (d .pointer) d) (λ q. refl) ∙ cleared-own (d .pointer) d (rw (reads-count n k c) h))
+      both (ofReads n k c) (ofRead (d .pointer)) (fanOf i c) (fanOf i d) _ (reads-own n k c h) (read-own n d (rw (reads-count n k c) h))

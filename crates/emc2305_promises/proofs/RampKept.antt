@@ -22,6 +22,7 @@ use Rattle.emc2305_fan.specs.Ramp.{moved}
 use Rattle.emc2305_fan.specs.Drive.{goal, underRamp, wished}
 use Rattle.emc2305_fan.specs.Spin.{started, tooSlow}
 use Rattle.emc2305_fan.specs.Tick.{ticked}
+use Rattle.emc2305_fan.specs.Status.{butStatus}
 use Rattle.emc2305_fan.specs.Tach.{countHigh, countLow, withReading, judged, stall, sampled}
 use Rattle.emc2305_fan.proofs.Ramps.{stays}
 use Rattle.emc2305_fan.proofs.Ticks.{ramp-ticks}
@@ -35,7 +36,6 @@ use Rattle.emc2305_chip.proofs.ChipTicks.{fan-ticks}
 use Rattle.emc2305_chip.proofs.Promises.{one-fan}
 use Rattle.emc2305.specs.Step.{taken}
 use Rattle.emc2305.specs.Traffic.{storesTo}
-use Rattle.emc2305.specs.Promises.{butStatus}
 use Rattle.emc2305.proofs.Effects.{by-effect}
 use Rattle.emc2305.proofs.FansKept.{other-fans}
 use Rattle.walks.specs.Sequence.{Handed}

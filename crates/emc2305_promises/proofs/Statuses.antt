@@ -13,13 +13,11 @@ use Rattle.emc2305_fan.specs.Spin.{started, tooSlow, spinFailed, spinOver, last
 use Rattle.emc2305_fan.specs.Tick.{updated, clockTicked, ticked}
 use Rattle.emc2305_fan.specs.Stored.{put, wishTaken, clearsClock, clockSet, spinStarts, settled, written}
 use Rattle.emc2305_fan.specs.Tach.{withReading, judged, stall, sampled}
+use Rattle.emc2305_fan.specs.Status.{butStatus, bitRead}
 use Rattle.emc2305_fan.proofs.Steps.{ticks-spin, ticks-ramp, ticks-still}
-use Rattle.emc2305_chip.specs.declared.Bit.{Bit}
-use Rattle.emc2305_chip.specs.declared.Bit.the-variants.{Stall, Spin}
-use Rattle.emc2305_chip.specs.Fans.{bitCleared}
-use Rattle.emc2305.specs.Promises.{butStatus}
+use Rattle.emc2305_fan.proofs.Statuses.{status-read}
 use Rattle.emc2305_promises.specs.Ramp.{fanOf}
-use Rattle.emc2305_promises.specs.Alone.{Own, tick, sample, wish, store, clear, played, ownTraffic, butClears, StatusAside}
+use Rattle.emc2305_promises.specs.Alone.{Own, tick, sample, wish, store, read, played, ownTraffic, butReads, StatusAside}
 use Rattle.emc2305_promises.proofs.OwnTraffic.{alone}
 
 -- two fans that differ in these bits alone
@@ -98,13 +96,9 @@ blind-written offset byte f =
     (alike (clockSet offset) (blind-clock offset) (wishTaken was g) (wishTaken was h) (alike (wishTaken was) (blind-wish-taken was) g h refl))))
     (λ t. rw t)
 
-cleared : (which : Bit) (f : Fan) → Alike (bitCleared which f) f
-cleared Stall f = refl
-cleared Spin f = refl
-
--- traffic, and the same without its clears
-plays : (owns : List Own) (f g : Fan) → Alike f g → Alike (played owns f) (played (butClears owns) g)
-unfolding played butClears
+-- traffic, and the same without its reads
+plays : (owns : List Own) (f g : Fan) → Alike f g → Alike (played owns f) (played (butReads owns) g)
+unfolding played butReads
 plays [] f g e = e
 plays (tick ∷ rest) f g e = plays rest (ticked f) (ticked g) (alike ticked blind-ticked f g e)
 plays (sample count ∷ rest) f g e =
@@ -112,7 +106,7 @@ plays (sample count ∷ rest) f g e =
 plays (wish drive ∷ rest) f g e = plays rest (wished drive f) (wished drive g) (alike (wished drive) (blind-wished drive) f g e)
 plays (store offset byte ∷ rest) f g e =
     plays rest (written offset byte f) (written offset byte g) (alike (written offset byte) (blind-written offset byte) f g e)
-plays (clear which ∷ rest) f g e = plays rest (bitCleared which f) g (cleared which f ∙ e)
+plays (read which ∷ rest) f g e = plays rest (bitRead which f) g (status-read which f .2 ∙ e)
 
 pub status-aside : StatusAside
 status-aside i c d events others five quiet calm same-before same-traffic =

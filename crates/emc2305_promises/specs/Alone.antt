@@ -9,30 +9,29 @@ use Rattle.laws.specs.Buffer.{bytesAt}
 use Rattle.laws.specs.Repeat.{repeated}
 use Rattle.eventlog.specs.declared.Event.{Event}
 use Rattle.eventlog.specs.Kinds.{onTicks, onSample, onWish, onTransfer}
+use Rattle.emc2305_fan.specs.declared.Bit.{Bit}
+use Rattle.emc2305_fan.specs.declared.Bit.the-variants.{Stall, Spin}
 use Rattle.emc2305_fan.specs.declared.Fan.{Fan}
 use Rattle.emc2305_fan.specs.Drive.{wished}
 use Rattle.emc2305_fan.specs.Tick.{ticked}
 use Rattle.emc2305_fan.specs.Stored.{written}
 use Rattle.emc2305_fan.specs.Tach.{sampled}
-use Rattle.emc2305_chip.specs.declared.Bit.{Bit}
-use Rattle.emc2305_chip.specs.declared.Bit.the-variants.{Stall, Spin}
+use Rattle.emc2305_fan.specs.Status.{butStatus, bitRead}
 use Rattle.emc2305_chip.specs.declared.Chip.{Chip}
 use Rattle.emc2305_chip.specs.State.{withFans, withPointer}
-use Rattle.emc2305_chip.specs.Fans.{bitCleared}
 use Rattle.emc2305_chip.specs.Watching.{fedChip}
 use Rattle.emc2305.specs.Transfers.{byteWritten, byteRead}
 use Rattle.emc2305.specs.Traffic.{byteStoresTo}
-use Rattle.emc2305.specs.Promises.{butStatus}
 use Rattle.walks.specs.Sequence.{Handed}
 use Rattle.emc2305_promises.specs.Ramp.{next, isTaken, afterAll, throughout, fanOf, watchOff}
 
--- what reaches a fan: a tick, a sample, a wish, a stored byte at an offset, a read that clears a status bit of every fan
+-- what reaches a fan: a tick, a sample, a wish, a stored byte at an offset, a read of 25h or of 26h
 pub data Own : Type 0 where
   tick : Own
   sample : ℕ → Own
   wish : ℕ → Own
   store : ℕ → ℕ → Own
-  clear : Bit → Own
+  read : Bit → Own
 
 -- what something that reaches a fan makes of it; no power-up watch runs
 abbrev pub moveBy : Own → Fan → Fan
@@ -40,7 +39,7 @@ moveBy tick f = ticked f
 moveBy (sample count) f = sampled count false f
 moveBy (wish drive) f = wished drive f
 moveBy (store offset byte) f = written offset byte f
-moveBy (clear which) f = bitCleared which f
+moveBy (read which) f = bitRead which f
 
 -- what all that reaches a fan makes of it, one after the other
 unfoldable pub played : List Own → Fan → Fan
@@ -61,9 +60,9 @@ unfoldable pub ofWrite : ℕ → List ℕ → Chip → List Own
 ofWrite i [] c = []
 ofWrite i (pointer ∷ rest) c = ofBytes i (length rest) rest (withPointer pointer c)
 
--- what reaches it of a byte that is read at an address: 25h and 26h clear a bit
+-- what reaches it of a byte that is read at an address: that it is one of 25h and 26h
 abbrev pub ofRead : ℕ → List Own
-ofRead address = cond (eqb address 0x25) (clear Stall ∷ []) (cond (eqb address 0x26) (clear Spin ∷ []) [])
+ofRead address = cond (eqb address 0x25) (read Stall ∷ []) (cond (eqb address 0x26) (read Spin ∷ []) [])
 
 -- what reaches it of the first k bytes of a read transfer of n
 unfoldable pub ofReads : ℕ → ℕ → Chip → List Own
@@ -119,13 +118,13 @@ NoFanWaits =
     → fanOf i (afterAll events c) ≡ fanOf i (afterAll others d)
 
 -- traffic without the reads of 25h and 26h
-unfoldable pub butClears : List Own → List Own
-butClears [] = []
-butClears (tick ∷ rest) = tick ∷ butClears rest
-butClears (sample count ∷ rest) = sample count ∷ butClears rest
-butClears (wish drive ∷ rest) = wish drive ∷ butClears rest
-butClears (store offset byte ∷ rest) = store offset byte ∷ butClears rest
-butClears (clear which ∷ rest) = butClears rest
+unfoldable pub butReads : List Own → List Own
+butReads [] = []
+butReads (tick ∷ rest) = tick ∷ butReads rest
+butReads (sample count ∷ rest) = sample count ∷ butReads rest
+butReads (wish drive ∷ rest) = wish drive ∷ butReads rest
+butReads (store offset byte ∷ rest) = store offset byte ∷ butReads rest
+butReads (read which ∷ rest) = butReads rest
 
 -- two sequences that agree on all of its traffic but these reads leave it the same but for its bits of 25h and 26h
 abbrev pub StatusAside : Type 0
@@ -135,7 +134,7 @@ StatusAside =
     → throughout watchOff events c ≡ true
     → throughout watchOff others d ≡ true
     → butStatus (fanOf i c) ≡ butStatus (fanOf i d)
-    → butClears (ownTraffic i events c) ≡ butClears (ownTraffic i others d)
+    → butReads (ownTraffic i events c) ≡ butReads (ownTraffic i others d)
     → butStatus (fanOf i (afterAll events c)) ≡ butStatus (fanOf i (afterAll others d))
 
 -- two chips that are alike but for their other four fans, which may be in any state

@@ -33,7 +33,7 @@ ready =
 
 -- fan 1 spins up, fan 3 gets another Max Step and Minimum Drive, the chip is locked
 -- refused: a transfer to another address, a power-on with address 200, a read whose reply has no room
--- of fan 2 itself: a write that the lock keeps from being stored, a wish in direct mode, a good sample and one that stalls, its status read and cleared
+-- of fan 2 itself: a write that the lock keeps from being stored, a wish in direct mode, a good sample and one that stalls, its status read
 abbrev pub busyEvents : List Handed
 busyEvents =
     withBytes (Transfer false 0x2C 4 2)

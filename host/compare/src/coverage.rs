@@ -26,7 +26,7 @@ pub struct Coverage {
 }
 
 /// What is counted by name. Numbers, registers, periods and Spin Up settings have names of their own.
-const NAMES: [&str; 66] = [
+const NAMES: [&str; 75] = [
     // The log
     "power-on while powered",
     "power-on at another address while powered",
@@ -46,8 +46,17 @@ const NAMES: [&str; 66] = [
     "WATCH read and cleared",
     "24h shows a 26h bit",
     "24h shows a 25h bit",
-    "25h read and cleared",
-    "26h read and cleared",
+    "25h bit kept by a read",
+    "26h bit kept by a read",
+    "25h bit cleared by a read",
+    "26h bit cleared by a read",
+    "bits of one register kept and cleared by one read",
+    "bit kept in spin-up",
+    "bit kept at goal 0",
+    "bit kept by the smallest reading above Valid Count",
+    "bit cleared by a reading that is Valid Count",
+    "bit cleared at drive 0, the reading above Valid Count",
+    "bit cleared at drive 0 and a goal above 0, the reading above Valid Count",
     // Drive
     "loop turned on",
     "loop turned on at a drive above 0",
@@ -329,8 +338,8 @@ impl Coverage {
             self.read[usize::from(register)] += 1;
             match register {
                 0x24 => self.status(chip),
-                0x25 => self.count("25h read and cleared", chip.stall_status != 0),
-                0x26 => self.count("26h read and cleared", chip.spin_status != 0),
+                0x25 => self.status_read(chip, chip.stall_status, "25h"),
+                0x26 => self.status_read(chip, chip.spin_status, "26h"),
                 _ => {}
             }
         }
@@ -340,6 +349,46 @@ impl Coverage {
         self.count("WATCH read and cleared", chip.watch_status);
         self.count("24h shows a 26h bit", chip.spin_status != 0);
         self.count("24h shows a 25h bit", chip.stall_status != 0);
+    }
+
+    /// CR 1: "clears a fan's bit unless its latest reading's high byte is above Valid Count while its drive is above 0".
+    fn status_read(&mut self, chip: &Chip, bits: u8, register: &str) {
+        let (mut kept, mut cleared) = (0, 0);
+        for (index, fan) in chip.fans.iter().enumerate() {
+            if bits >> index & 1 == 1 {
+                let slow = fan.registers[READING_HIGH] > fan.registers[VALID_COUNT];
+                let stays = slow && fan.drive > 0;
+                kept += u32::from(stays);
+                cleared += u32::from(!stays);
+                self.bit_read(fan, slow, stays);
+            }
+        }
+        self.count(&format!("{register} bit kept by a read"), kept > 0);
+        self.count(&format!("{register} bit cleared by a read"), cleared > 0);
+        self.count(
+            "bits of one register kept and cleared by one read",
+            kept > 0 && cleared > 0,
+        );
+    }
+
+    fn bit_read(&mut self, fan: &Fan, slow: bool, stays: bool) {
+        let (high, valid) = (fan.registers[READING_HIGH], fan.registers[VALID_COUNT]);
+        let at_rest = slow && fan.drive == 0;
+        self.count("bit kept in spin-up", stays && fan.spin_up.is_some());
+        self.count("bit kept at goal 0", stays && fan.goal() == 0);
+        self.count(
+            "bit kept by the smallest reading above Valid Count",
+            stays && high == valid + 1,
+        );
+        self.count(
+            "bit cleared by a reading that is Valid Count",
+            fan.drive > 0 && high == valid,
+        );
+        self.count("bit cleared at drive 0, the reading above Valid Count", at_rest);
+        self.count(
+            "bit cleared at drive 0 and a goal above 0, the reading above Valid Count",
+            at_rest && fan.goal() > 0,
+        );
     }
 
     fn writes(&mut self, chip: &Chip, bytes: &[u8]) {

@@ -134,7 +134,7 @@ impl Traffic<'_> {
         if self.chance.one_in(2) {
             self.power_on();
         }
-        match self.chance.below(15) {
+        match self.chance.below(16) {
             0 => self.any_write(),
             1 => self.wrapping(),
             2 => self.locking(),
@@ -145,6 +145,7 @@ impl Traffic<'_> {
             10 | 11 => self.ramping(),
             12 => self.closed_loop(),
             13 => self.resting_loop(),
+            14 => self.held_rotor(),
             _ => (0..self.chance.between(1, 12)).for_each(|_| self.small_event()),
         }
         match self.chance.below(4) {
@@ -427,6 +428,54 @@ impl Traffic<'_> {
         self.show(0x24, 4);
         self.show(0x25, 1);
         self.show(0x24, 1);
+    }
+
+    /// Two fans with their bits of 25h and 26h set, one with its rotor held: reads, again and again, while it turns or not.
+    fn held_rotor(&mut self) {
+        let fans = [self.any_fan(), self.any_fan()];
+        for at in fans {
+            self.set(at.base + SPIN_UP, 0x18);
+            self.set(at.base + SETTING, 0x20);
+        }
+        self.ticks(20);
+        let valid = self.chance.pick(&[0xF5, 0xF5, 0x00, 0x80, 0xFE]);
+        for at in fans {
+            self.set(at.base + VALID_COUNT, valid);
+            self.sample(at.fan, LARGEST_SAMPLE);
+        }
+        for _ in 0..self.chance.between(4, 12) {
+            let at = self.chance.pick(&fans);
+            self.turn_or_stop(at, valid);
+            let (register, count) = self.chance.pick(&[(0x25, 1), (0x26, 1), (0x24, 4), (0x24, 1)]);
+            self.show(register, count);
+            if self.chance.one_in(2) {
+                self.read(count);
+            }
+        }
+    }
+
+    /// What can make a fan keep its bits or not: its reading, Valid Count, its drive, and its goal, which cannot.
+    fn turn_or_stop(&mut self, at: FanAt, valid: u8) {
+        match self.chance.below(9) {
+            0 | 1 => self.edge_sample(at, valid),
+            2 => self.set(at.base + VALID_COUNT, valid),
+            3 => self.set(at.base + VALID_COUNT, 0xFF),
+            4 => self.set(at.base + SETTING, 0),
+            5 => self.set(at.base + SETTING, 0x20),
+            6 => {
+                self.quick_ramp(at);
+                self.set(at.base + SETTING, 0);
+            }
+            7 => {
+                self.set(at.base + MINIMUM_DRIVE, 0);
+                self.loop_on(at);
+                let drive = self.chance.pick(&[0, 0x80]);
+                self.wish(at.fan, drive);
+            }
+            _ => self.set(at.base + CONFIGURATION_1, 0x2B),
+        }
+        let wait = self.chance.pick(&[0, 0, 8, 20, 40]);
+        self.ticks(wait);
     }
 
     /// The largest sample that is no stall, the smallest that is one, or any.

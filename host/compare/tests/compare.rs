@@ -76,6 +76,8 @@ enum Lie {
     RefusedReply,
     /// The reply of a read of 25h is 0.
     StallStatus,
+    /// The second of two reads of 25h in a row is 0.
+    SecondRead,
     /// A reading gives the place after the next.
     Next,
     /// The end of the log is refused.
@@ -134,7 +136,8 @@ impl Subject for Wrong {
             Lie::ReplyBit if laid > 0 => replies[laid - 1] ^= 0x10,
             Lie::PastTheReplies if laid < replies.len() => replies[laid] ^= 1,
             Lie::RefusedReply if run.number == 8 && laid < replies.len() => replies[laid] = 0xEE,
-            Lie::StallStatus => without_stalls(log, replies),
+            Lie::StallStatus => without_stalls(log, replies, false),
+            Lie::SecondRead => without_stalls(log, replies, true),
             _ => {}
         }
         run
@@ -178,16 +181,18 @@ impl Subject for Wrong {
     }
 }
 
-/// Runs once more, and lays 0 for what a read of 25h alone replied.
-fn without_stalls(log: &[u8], replies: &mut [u8]) {
-    let (mut chip, mut place, mut laid) = (Chip::unpowered(), 0, 0);
+/// Runs once more, and lays 0 for what a read of 25h alone replied; or only where the record before it was one too.
+fn without_stalls(log: &[u8], replies: &mut [u8], second: bool) {
+    let (mut chip, mut place, mut laid, mut again) = (Chip::unpowered(), 0, 0, false);
     while let Ok(Some((event, next))) = model::log::read(log, place) {
         let pointer = chip.pointer;
         match chip.step(&event, log, &mut replies[laid..]) {
             Ok(count) => {
-                if count == 1 && pointer == 0x25 {
+                let alone = count == 1 && pointer == 0x25;
+                if alone && (again || !second) {
                     replies[laid] = 0;
                 }
+                again = alone;
                 laid += count;
             }
             Err(8) => return,
@@ -206,7 +211,7 @@ fn found(lie: Lie) -> Failure {
 }
 
 /// Each lie, and what is said to differ.
-const LIES: [(Lie, &str); 19] = [
+const LIES: [(Lie, &str); 20] = [
     (Lie::Number, "a run"),
     (Lie::Place, "a run"),
     (Lie::Records, "a run"),
@@ -215,6 +220,7 @@ const LIES: [(Lie, &str); 19] = [
     (Lie::PastTheReplies, "the replies"),
     (Lie::RefusedReply, "the replies"),
     (Lie::StallStatus, "the replies"),
+    (Lie::SecondRead, "the replies"),
     (Lie::Next, "reading"),
     (Lie::End, "reading"),
     (Lie::PastTheEnd, "reading"),
@@ -241,7 +247,7 @@ fn a_failure_is_made_small() {
     let failure = found(Lie::ReplyBit);
     assert_eq!(
         failure.log,
-        [0x9C, 0x46, 1, 1, 0, 0x9C, 0x46, 5, 2, 1, 1],
+        [0x9C, 0x46, 1, 1, 0x2C, 0x9C, 0x46, 5, 2, 0x59, 1],
         "a power-on and a read"
     );
     let stall = found(Lie::StallStatus);
@@ -256,7 +262,7 @@ fn a_failure_tells_its_seed_and_log() {
         text.starts_with(&format!("seed {}: the replies", failure.seed)),
         "{text}"
     );
-    assert!(text.contains("  9C 46 01 01 00\n  9C 46 05 02 01 01\n"), "{text}");
+    assert!(text.contains("  9C 46 01 01 2C\n  9C 46 05 02 59 01\n"), "{text}");
     let log = generate::log(failure.seed);
     assert!(
         difference(&Wrong(Lie::ReplyBit), &log).is_some(),

@@ -4,6 +4,7 @@ mod bench;
 mod drive;
 mod registers;
 mod spin_up;
+mod status;
 mod tach;
 pub mod traffic;
 mod unreached;
@@ -24,13 +25,14 @@ pub fn script() -> Script {
     let mut bench = Bench::new();
     bench.title("numbers of a state: drive wish clock, ticks length level of the spin-up, goal step period");
     bench.title(
-        "words of a state: running kick (the spin-up's) stalled failed spin-up ramp (control) loop (closed) \
+        "words of a state: running kick (the spin-up's) stalled failed stuck spin-up ramp (control) loop (closed) \
          off (driver)",
     );
     registers::cases(&mut bench);
     drive::cases(&mut bench);
     spin_up::cases(&mut bench);
     tach::cases(&mut bench);
+    status::cases(&mut bench);
     unreached::cases(&mut bench);
     traffic::cases(&mut bench);
     bench.script

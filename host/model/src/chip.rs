@@ -212,6 +212,11 @@ impl Fan {
         stall
     }
 
+    /// CR 1: "unless its latest reading's high byte is above Valid Count while its drive is above 0".
+    pub fn keeps_status(&self) -> bool {
+        self.registers[READING_HIGH] > self.registers[VALID_COUNT] && self.drive > 0
+    }
+
     /// Drive: "Reading Setting shows the present drive"; Registers: "Offset 4 is undefined", and so is any past F.
     pub fn register(&self, offset: usize) -> u8 {
         match offset {
@@ -459,14 +464,20 @@ impl Chip {
         }
     }
 
-    /// Registers: "An undefined register reads 00h"; Status: "Reading 25h or 26h clears all its bits; reading 24h
-    /// clears WATCH."
+    /// Registers: "An undefined register reads 00h"; Status: "reading 24h clears WATCH"; CR 1: "reading 25h clears a fan's
+    /// bit unless [...]. Register 26h follows the same test."
     fn read_register(&mut self, register: u8) -> u8 {
         match register {
             0x20 => self.configuration,
             0x24 => self.read_status(),
-            0x25 => std::mem::take(&mut self.stall_status),
-            0x26 => std::mem::take(&mut self.spin_status),
+            0x25 => {
+                let kept = self.stall_status & self.fans_that_keep_status();
+                std::mem::replace(&mut self.stall_status, kept)
+            }
+            0x26 => {
+                let kept = self.spin_status & self.fans_that_keep_status();
+                std::mem::replace(&mut self.spin_status, kept)
+            }
             0x29 => self.interrupt_enable,
             0x2A..=0x2D => self.pwm[usize::from(register - 0x2A)],
             0x30..=0x7F => self.fans[fan_index(register)].register(offset(register)),
@@ -474,6 +485,12 @@ impl Chip {
             0xFC..=0xFF => IDENTITY[usize::from(register - 0xFC)],
             _ => 0x00,
         }
+    }
+
+    /// CR 1: bit i - 1 for each fan i whose status a read leaves.
+    fn fans_that_keep_status(&self) -> u8 {
+        let bits = self.fans.iter().enumerate();
+        bits.map(|(index, fan)| u8::from(fan.keeps_status()) << index).sum()
     }
 
     /// Status: "24h: bit 7 WATCH, bit 1 any of 26h, bit 0 any of 25h"; "reading 24h clears WATCH."

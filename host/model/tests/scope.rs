@@ -1,7 +1,8 @@
 //! Document 01's own examples and rules, with its figures.
 
 use model::chip::{
-    Chip, Watch, CONFIGURATION_1, CONFIGURATION_2, MAX_STEP, MINIMUM_DRIVE, SETTING, SPIN_UP, TARGET_HIGH,
+    Chip, Watch, CONFIGURATION_1, CONFIGURATION_2, MAX_STEP, MINIMUM_DRIVE, READING_HIGH, SETTING, SPIN_UP,
+    TARGET_HIGH, VALID_COUNT,
 };
 use model::listing::list;
 use model::log::{read, write, Event};
@@ -204,7 +205,7 @@ fn stall_of_a_default_fan() {
     assert_eq!(peek(&mut chip, 0x25), 0x00);
     sample(&mut chip, 1, 7872);
     assert_eq!((peek(&mut chip, 0x3E), peek(&mut chip, 0x3F)), (0xF6, 0x00));
-    assert_eq!((peek(&mut chip, 0x25), peek(&mut chip, 0x25)), (0x01, 0x00));
+    assert_eq!((peek(&mut chip, 0x25), peek(&mut chip, 0x25)), (0x01, 0x01));
     assert_eq!((chip.fans[0].drive, chip.fans[0].spin_up), (128, None));
 }
 
@@ -572,6 +573,80 @@ fn status_and_alert() {
     send(&mut chip, &[0x29, 0x00]);
     send(&mut chip, &[0x20, 0x40]);
     assert!(chip.alert());
+}
+
+// CR 1: "A driver author read 25h twice with the rotor held"; fan 4 shows that each fan is tested by itself.
+#[test]
+fn status_of_a_held_rotor() {
+    let mut chip = unwatched();
+    for fan in [1, 3] {
+        chip.fans[fan].registers[SETTING] = 128;
+        chip.fans[fan].drive = 128;
+        sample(&mut chip, fan as u8 + 1, 8191);
+    }
+    sample(&mut chip, 4, 0);
+    let shown: Vec<u8> = (0..3).map(|_| peek(&mut chip, 0x25)).collect();
+    assert_eq!(shown, [0x0A, 0x02, 0x02]);
+    assert_eq!(peek(&mut chip, 0x24), 0x01);
+    sample(&mut chip, 2, 7871);
+    assert_eq!((peek(&mut chip, 0x24), peek(&mut chip, 0x25)), (0x01, 0x02));
+    assert_eq!((peek(&mut chip, 0x24), peek(&mut chip, 0x25)), (0x00, 0x00));
+}
+
+// CR 1: "unless its latest reading's high byte is above Valid Count while its drive is above 0. Register 26h follows the
+// same test": the reading's edge, drives 0 and 1, in a spin-up, in any watch; each register leaves the other's bits.
+#[test]
+fn status_kept_and_cleared() {
+    for (reading, valid, drive, kept) in [
+        (0xF6, 0xF5, 1, true),
+        (0xF5, 0xF5, 255, false),
+        (0xFF, 0x00, 0, false),
+        (0x01, 0x00, 255, true),
+        (0xFF, 0xFF, 255, false),
+    ] {
+        for watch in [Watch::Off, Watch::PowerUp { count: 0 }, Watch::Continuous { count: 0 }] {
+            for (register, other) in [(0x25, 0x26), (0x26, 0x25)] {
+                let mut chip = powered();
+                chip.watch = watch;
+                chip.fans[4].registers[READING_HIGH] = reading;
+                chip.fans[4].registers[VALID_COUNT] = valid;
+                chip.fans[4].drive = drive;
+                (chip.stall_status, chip.spin_status) = (0x10, 0x10);
+                let after = if kept { 0x10 } else { 0x00 };
+                assert_eq!((peek(&mut chip, register), peek(&mut chip, register)), (0x10, after));
+                assert_eq!(peek(&mut chip, other), 0x10);
+            }
+        }
+    }
+    let mut chip = powered();
+    send(&mut chip, &[0x30, 0x80]);
+    chip.spin_status = 0x01;
+    assert!(chip.fans[0].spin_up.is_some());
+    assert_eq!((peek(&mut chip, 0x26), peek(&mut chip, 0x26)), (0x01, 0x01));
+}
+
+// CR 1, as read: a fan that ramps down to goal 0 keeps its bit until the drive is 0.
+#[test]
+fn status_while_ramping_to_0() {
+    let mut chip = ramping(20, 0, 16);
+    chip.stall_status = 0x01;
+    for (drive, shown) in [(4, 0x01), (0, 0x01), (0, 0x00)] {
+        ticks(&mut chip, 8);
+        assert_eq!((chip.fans[0].drive, peek(&mut chip, 0x25)), (drive, shown));
+    }
+}
+
+// CR 1: in a block each byte is shown, and then its own test decides what stays.
+#[test]
+fn status_in_a_block() {
+    let mut chip = unwatched();
+    chip.watch_status = true;
+    chip.fans[1].drive = 9;
+    (chip.stall_status, chip.spin_status) = (0x06, 0x0A);
+    for shown in [[0x83, 0x06, 0x0A, 0x00], [0x03, 0x02, 0x02, 0x00]] {
+        send(&mut chip, &[0x24]);
+        assert_eq!(clock_in(&mut chip, 4), shown);
+    }
 }
 
 // Drive: closed loop, its goal, wish, driver off, and a Setting write that stores nothing.

@@ -200,7 +200,12 @@ impl Bench {
         self.send(&[at(fan, CONFIGURATION_1), 0xA8]);
     }
 
-    /// Every bit of 24h, 25h and 26h that can be set, with the continuous watch.
+    /// A good sample of each of some fans.
+    pub fn turn(&mut self, fans: &[u8]) {
+        fans.iter().for_each(|&fan| self.sample(fan, HEALTHY));
+    }
+
+    /// Every bit of 24h, 25h and 26h that can be set, with the continuous watch; every rotor held.
     pub fn all_stand(&mut self) {
         self.power_on();
         for fan in FANS {

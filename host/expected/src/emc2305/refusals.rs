@@ -25,6 +25,7 @@ fn alerted(bench: &mut Bench) {
     bench.send(&[CONFIGURATION, 0x60]);
     bench.send(&[STALL]);
     bench.sample(1, STALLED);
+    bench.sample(1, HEALTHY);
     bench.ticks(9);
 }
 

@@ -2,19 +2,21 @@
 
 use super::bench::{Bench, HEALTHY, STALLED};
 use super::{at, CONFIGURATION, DRIVE_FAIL, ENABLE, FANS, LOCK, SPIN, STALL, STATUS};
-use model::chip::{SETTING, SPIN_UP};
+use model::chip::{Watch, CONFIGURATION_1, CONFIGURATION_2, SETTING, SPIN_UP, VALID_COUNT};
 
 pub fn cases(bench: &mut Bench) {
     bit_cases(bench);
     moment_cases(bench);
     standing_cases(bench);
+    held_cases(bench);
     enable_cases(bench);
     mask_cases(bench);
 }
 
 fn bit_cases(bench: &mut Bench) {
     bench.title(
-        "25h and 26h: bit i - 1 for fan i; 24h has bits 0 and 1 by them; a block read shows each and then clears it",
+        "25h and 26h: bit i - 1 for fan i; 24h has bits 0 and 1 by them; a block read shows each, and clears it once the \
+         reading is good",
     );
     bench.room(4);
     for fan in FANS {
@@ -23,21 +25,28 @@ fn bit_cases(bench: &mut Bench) {
         bench.send(&[at(fan, SETTING), 0x80]);
         bench.ticks(19);
         bench.ticks(1);
-        bench.sample(fan, STALLED);
-        for _ in 0..2 {
-            bench.send(&[STATUS]);
-            bench.clock(4);
+        for count in [STALLED, HEALTHY] {
+            bench.sample(fan, count);
+            for _ in 0..2 {
+                bench.send(&[STATUS]);
+                bench.clock(4);
+            }
         }
     }
-    bench.title("24h clears WATCH alone, 25h and 26h their own bits, 27h nothing, reads as 00h");
-    for register in [STATUS, STALL, SPIN, DRIVE_FAIL] {
-        bench.all_stand();
-        bench.send(&[register]);
-        bench.clock(1);
-        bench.clock(1);
-        bench.send(&[STATUS]);
-        bench.clock(4);
-        bench.clock(1);
+    bench.title(
+        "24h clears WATCH alone, 25h and 26h their own bits, 27h nothing, reads as 00h; of fans that are stuck none",
+    );
+    for healthy in [&FANS[..], &[2, 5], &[]] {
+        for register in [STATUS, STALL, SPIN, DRIVE_FAIL] {
+            bench.all_stand();
+            bench.turn(healthy);
+            bench.send(&[register]);
+            bench.clock(1);
+            bench.clock(1);
+            bench.send(&[STATUS]);
+            bench.clock(4);
+            bench.clock(1);
+        }
     }
 }
 
@@ -45,6 +54,7 @@ fn moment_cases(bench: &mut Bench) {
     bench.title("in a block 24h shows 25h and 26h as they stand at that moment");
     for (first, count) in [(STALL, 2), (SPIN, 3), (0x23, 2), (0x23, 3)] {
         bench.all_stand();
+        bench.turn(&[1, 4, 5]);
         bench.send(&[first]);
         bench.clock(count);
         bench.send(&[STATUS]);
@@ -53,6 +63,7 @@ fn moment_cases(bench: &mut Bench) {
     bench.room(32);
     for first in [CONFIGURATION, 0x06, 0x05, 0x27] {
         bench.all_stand();
+        bench.turn(&[3]);
         bench.send(&[first]);
         bench.clock(32);
     }
@@ -62,9 +73,7 @@ fn moment_cases(bench: &mut Bench) {
 fn standing_cases(bench: &mut Bench) {
     bench.title("a healthy sample, a write, a pointer set to it and a read of any other register clear no bit");
     bench.all_stand();
-    for fan in FANS {
-        bench.sample(fan, HEALTHY);
-    }
+    bench.turn(&FANS);
     for register in [STATUS, STALL, SPIN] {
         bench.send(&[register]);
         bench.send(&[register, 0xFF]);
@@ -84,6 +93,7 @@ fn standing_cases(bench: &mut Bench) {
     }
     bench.title("a bit that was cleared is set again by the next stall, spin-up, firing");
     bench.all_stand();
+    bench.turn(&FANS);
     for register in [STATUS, STALL, SPIN] {
         bench.send(&[register]);
         bench.clock(1);
@@ -92,10 +102,68 @@ fn standing_cases(bench: &mut Bench) {
         bench.sample(fan, STALLED);
     }
     bench.send(&[at(4, SETTING), 0]);
+    bench.sample(4, STALLED);
     bench.send(&[at(4, SETTING), 9]);
     bench.ticks(20);
     bench.ticks(299);
     bench.ticks(1);
+}
+
+fn held_cases(bench: &mut Bench) {
+    bench.title("a rotor that is held: fan 2 of five that turn, read again and again; then it turns");
+    bench.settled(&[80; 5]);
+    bench.sample(2, STALLED);
+    for _ in 0..2 {
+        for register in [STALL, SPIN, STATUS, STALL] {
+            bench.send(&[register]);
+            bench.clock(1);
+            bench.ticks(100);
+        }
+        bench.sample(2, HEALTHY);
+    }
+    bench.title("each fan by itself: held, good, at drive 0, at the edge of Valid Count, in a spin-up; in any watch");
+    for watch in [Watch::Off, Watch::PowerUp { count: 9 }, Watch::Continuous { count: 9 }] {
+        for register in [STALL, SPIN] {
+            bench.all_stand();
+            bench.send(&[at(3, SETTING), 0]);
+            bench.sample(2, HEALTHY);
+            bench.send(&[at(4, VALID_COUNT), 0xFF]);
+            bench.send(&[at(5, SETTING), 0]);
+            bench.send(&[at(5, SETTING), 9]);
+            bench.send(&[register]);
+            bench.watch(watch);
+            bench.clock(1);
+            bench.clock(1);
+            bench.send(&[at(4, VALID_COUNT), 0xFE]);
+            bench.send(&[STATUS]);
+            bench.clock(3);
+            bench.clock(3);
+        }
+    }
+    bench.title("down to goal 0 a fan keeps its bit until the drive is 0");
+    bench.settled(&[20]);
+    bench.send(&[at(1, CONFIGURATION_1), 0x28]);
+    bench.send(&[at(1, CONFIGURATION_2), 0x68]);
+    bench.sample(1, STALLED);
+    bench.send(&[at(1, SETTING), 0]);
+    bench.send(&[STALL]);
+    for _ in 0..3 {
+        bench.clock(1);
+        bench.ticks(8);
+    }
+    bench.clock(1);
+    bench.title("a spin-up that fails again and again: 26h shows it at each read, and not once it did not fail");
+    bench.power_on();
+    bench.loop_on(1);
+    bench.send(&[SPIN]);
+    for _ in 0..3 {
+        bench.clock(1);
+        bench.ticks(40);
+    }
+    bench.sample(1, HEALTHY);
+    bench.ticks(40);
+    bench.clock(1);
+    bench.clock(1);
 }
 
 fn enable_cases(bench: &mut Bench) {
@@ -121,12 +189,15 @@ fn enable_cases(bench: &mut Bench) {
             bench.send(&[ENABLE, enable]);
         }
     }
-    bench.title("the line goes off with the last enabled bit");
-    bench.all_stand();
-    bench.send(&[ENABLE, 0x12]);
-    for register in [STATUS, STALL, SPIN] {
-        bench.send(&[register]);
-        bench.clock(1);
+    bench.title("the line goes off with the last enabled bit, and stays on for one that stays");
+    for healthy in [&FANS[..], &[1, 3, 4, 5]] {
+        bench.all_stand();
+        bench.turn(healthy);
+        bench.send(&[ENABLE, 0x12]);
+        for register in [STATUS, STALL, SPIN] {
+            bench.send(&[register]);
+            bench.clock(1);
+        }
     }
 }
 

@@ -88,6 +88,7 @@ impl State {
             (" kick", spin.kick),
             (" stalled", self.stalled),
             (" failed", self.failed),
+            (" stuck", fan.keeps_status()),
             (" spin-up", running),
             (" ramp", fan.ramp_control()),
             (" loop", fan.closed_loop()),
@@ -240,6 +241,18 @@ impl Bench {
     pub fn watchdog(&mut self) {
         self.state.fan.full_drive();
         self.shows(b'd', &[], "watchdog");
+    }
+
+    /// A read of 25h: the fan's bit stays or is cleared.
+    pub fn read_stall(&mut self) {
+        self.state.stalled &= self.state.fan.keeps_status();
+        self.shows(b'c', &[0], "read 25h");
+    }
+
+    /// A read of 26h.
+    pub fn read_spin(&mut self) {
+        self.state.failed &= self.state.fan.keeps_status();
+        self.shows(b'c', &[1], "read 26h");
     }
 
     /// What a read of each offset shows, and what the registers hold.

@@ -61,11 +61,13 @@ fn any_ticks(bench: &mut Bench, chance: &Chance) {
 }
 
 fn any_command(bench: &mut Bench, chance: &Chance) {
-    match chance.below(16) {
+    match chance.below(18) {
         0u8..6 => any_write(bench, chance),
         6..11 => any_ticks(bench, chance),
         11..13 => any_sample(bench, chance),
         13..15 => bench.wish(chance.below(256)),
+        15 => bench.read_stall(),
+        16 => bench.read_spin(),
         _ => bench.watchdog(),
     }
 }

@@ -15,14 +15,14 @@ enum-told c = search needs
 enum-told-2 : tie.Need-enum-told-2
 enum-told-2 c = search needs
 
-bits-cleared-requires : tie.Need-bits-cleared-requires
-bits-cleared-requires c κs = search needs
+bits-read-requires : tie.Need-bits-read-requires
+bits-read-requires c κs = search needs
 
 enum-told-3 : tie.Need-enum-told-3
 enum-told-3 c = search needs
 
-bits-cleared-requires-2 : tie.Need-bits-cleared-requires-2
-bits-cleared-requires-2 c κs = search needs
+bits-read-requires-2 : tie.Need-bits-read-requires-2
+bits-read-requires-2 c κs = search needs
 
 returns : tie.Need-returns
 unfolding clearedAt
@@ -30,11 +30,11 @@ returns c = rw (sym (c .before .before .register-of .ensures) ∙ c .enum-told .
 
 returns-2 : tie.Need-returns-2
 unfolding clearedAt
-returns-2 c = rw (sym (c .before .before .before .register-of .ensures) ∙ c .before .enum-told2 .given .1) (c .bits-cleared .ensures)
+returns-2 c = rw (sym (c .before .before .before .register-of .ensures) ∙ c .before .enum-told2 .given .1) (c .bits-read .ensures)
 
 returns-3 : tie.Need-returns-3
 unfolding clearedAt
-returns-3 c = rw (sym (c .before .before .before .register-of .ensures) ∙ c .before .enum-told3 .given .1) (c .bits-cleared2 .ensures)
+returns-3 c = rw (sym (c .before .before .before .register-of .ensures) ∙ c .before .enum-told3 .given .1) (c .bits-read2 .ensures)
 
 returns-4 : tie.Need-returns-4
 unfolding clearedAt
@@ -47,9 +47,9 @@ cleared-spec =
     register-of-requires
     enum-told
     enum-told-2
-    bits-cleared-requires
+    bits-read-requires
     enum-told-3
-    bits-cleared-requires-2
+    bits-read-requires-2
     returns
     returns-2
     returns-3

@@ -25,8 +25,8 @@ mul-fan c = search cases
 array-copy-out-fan : tie.Need-array-copy-out-fan Inv-loop μ-loop
 array-copy-out-fan c = search cases
 
-standing-requires : tie.Need-standing-requires Inv-loop μ-loop
-standing-requires c κs = search cases
+stands-requires : tie.Need-stands-requires Inv-loop μ-loop
+stands-requires c κs = search cases
 
 weighed-requires : tie.Need-weighed-requires Inv-loop μ-loop
 weighed-requires c κs = search cases
@@ -35,7 +35,7 @@ add-byte : tie.Need-add-byte Inv-loop μ-loop
 add-byte c =
     let a = c .before .before .before .before .before .args in
     let b4 = c .before .before .before .before in
-    omega (arith, bits-fit (a .bit) (a .t1) (b4 .loop .i) _ _ (c .before .standing .result) (b4 .loop .inv .1) (c .weighed .ensures) (search needs))
+    omega (arith, bits-fit (a .bit) (a .t1) (b4 .loop .i) _ _ (c .before .stands .result) (b4 .loop .inv .1) (c .weighed .ensures) (search needs))
 
 add-i : tie.Need-add-i Inv-loop μ-loop
 add-i c = search cases
@@ -48,7 +48,7 @@ loop-again c =
     let a = c .before .before .before .before .before .args in
     let b4 = c .before .before .before .before in (
       omega arith,
-      bits-next (a .bit) (a .t1) (b4 .loop .i) _ _ (c .before .standing .result) (b4 .loop .inv .1) (c .weighed .ensures) (c .before .standing .ensures),
+      bits-next (a .bit) (a .t1) (b4 .loop .i) _ _ (c .before .stands .result) (b4 .loop .inv .1) (c .weighed .ensures) (c .before .stands .ensures),
     )
 
 returns : tie.Need-returns Inv-loop μ-loop
@@ -63,7 +63,7 @@ bits-of-spec =
     loop-holds
     mul-fan
     array-copy-out-fan
-    standing-requires
+    stands-requires
     weighed-requires
     add-byte
     add-i

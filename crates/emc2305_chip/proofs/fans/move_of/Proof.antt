@@ -24,8 +24,8 @@ fired-requires c κs = search needs
 enum-known-what-2 : tie.Need-enum-known-what-2
 enum-known-what-2 c = search needs
 
-bit-cleared-requires : tie.Need-bit-cleared-requires
-bit-cleared-requires c κs = search needs
+bit-read-requires : tie.Need-bit-read-requires
+bit-read-requires c κs = search needs
 
 returns : tie.Need-returns
 returns c = rw (c .before .enum-told .given .1) (c .power-on .ensures)
@@ -37,7 +37,7 @@ returns-3 : tie.Need-returns-3
 returns-3 c = rw (c .before .enum-told2 .given .1) (c .fired .ensures)
 
 returns-4 : tie.Need-returns-4
-returns-4 c = rw (c .before .before .what2 .given .1) (c .bit-cleared .ensures)
+returns-4 c = rw (c .before .before .what2 .given .1) (c .bit-read .ensures)
 
 pub move-of-spec : {M : Type 1} → statement M
 move-of-spec =
@@ -50,7 +50,7 @@ move-of-spec =
     enum-told-2
     fired-requires
     enum-known-what-2
-    bit-cleared-requires
+    bit-read-requires
     returns
     returns-2
     returns-3

@@ -1,7 +1,7 @@
--- `emc2305_chip::fans::bit_cleared` meets its contract.
+-- `emc2305_fan::Fan::bit_cleared` meets its contract.
 use borrow.Author.Needs.{needs}
-use Rattle.emc2305_chip.proofs.fans.bit_cleared.Statement.{statement}
-use Rattle.emc2305_chip.proofs.fans.bit_cleared.Tie as tie
+use Rattle.emc2305_fan.proofs.Fan.bit_cleared.Statement.{statement}
+use Rattle.emc2305_fan.proofs.Fan.bit_cleared.Tie as tie
 
 enum-told : tie.Need-enum-told
 enum-told c = search needs

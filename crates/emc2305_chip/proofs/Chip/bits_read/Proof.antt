@@ -1,13 +1,13 @@
--- `emc2305_chip::Chip::bits_cleared` meets its contract.
+-- `emc2305_chip::Chip::bits_read` meets its contract.
 use mathlib.Core.List.{List}
 use mathlib.Core.Path.{sym, ap, _∙_}
 use lib.ListN.{length-map}
 use borrow.Author.Needs.{needs}
 use Rattle.emc2305_fan.specs.declared.Fan.{Fan}
 use Rattle.emc2305_chip.specs.State.{withFans}
-use Rattle.emc2305_chip.proofs.Bits.{none-cleared}
-use Rattle.emc2305_chip.proofs.Chip.bits_cleared.Statement.{statement}
-use Rattle.emc2305_chip.proofs.Chip.bits_cleared.Tie as tie
+use Rattle.emc2305_chip.proofs.Bits.{none-read}
+use Rattle.emc2305_chip.proofs.Chip.bits_read.Statement.{statement}
+use Rattle.emc2305_chip.proofs.Chip.bits_read.Tie as tie
 
 bits-of-requires : tie.Need-bits-of-requires
 bits-of-requires c κs = search needs
@@ -21,13 +21,13 @@ with-fans-requires c κs = search needs
 returns : tie.Need-returns
 returns c =
     let s = c .before .before .before in
-    none-cleared (s .args .bit) (s .args .self) (length-map (s .args .self .fans) _) (s .good .0 .1 .1 .1 .1 .0 .1 .0 .1)
+    none-read (s .args .bit) (s .args .self) (length-map (s .args .self .fans) _) (s .good .0 .1 .1 .1 .1 .0 .1 .0 .1)
     (sym (c .before .bits-of .ensures) ∙ c .if1 .taken)
 
 returns-2 : tie.Need-returns-2
 returns-2 c =
     c .with-fans .ensures ∙ ap (λ (l : List Fan). withFans l (c .before .before .before .before .before .args .self)) (c .before .each .ensures)
 
-pub bits-cleared-spec : {M : Type 1} → statement M
-bits-cleared-spec =
+pub bits-read-spec : {M : Type 1} → statement M
+bits-read-spec =
     tie.close (tie.spec bits-of-requires each-requires with-fans-requires returns returns-2)

@@ -1,0 +1,244 @@
+-- A rotor that is held, and one that turns again (specs/Held.antt).
+use mathlib.Core.Path.{_≡_, refl, sym, ap, subst, _∙_}
+use mathlib.Core.Bool.{Bool, true, false, _&&_, true≢false, and-false}
+use mathlib.Core.List.{List}
+use Prim.Native.Nat.{ℕ, suc, _+_, _-_, _≤_, _<_}
+use native.Mathlib.Omega.{arith}
+use lib.Dec.{leb, ltb}
+use lib.ListN.{length, getD, set, length-set, List·getD-eq-default}
+use lib.Seq.{getD-set-other, getD-set-same}
+use borrow.Author.Tests.{leb-true, leb-false, le-ltb, not-true}
+use Rattle.laws.specs.Repeat.{repeated}
+use Rattle.laws.proofs.Repeat.{first-steps}
+use Rattle.laws.proofs.Tests.{by-test, and-left, and-right}
+use Rattle.eventlog.specs.declared.Event.{Event}
+use Rattle.eventlog.specs.declared.Event.the-variants.{Sample}
+use Rattle.eventlog.specs.Kinds.{replyLength}
+use Rattle.eventlog.specs.Range.{inRange, rangeNumber}
+use Rattle.eventlog.proofs.Ranges.{reply-small}
+use Rattle.emc2305_fan.specs.declared.Bit.{Bit}
+use Rattle.emc2305_fan.specs.declared.Bit.the-variants.{Stall, Spin}
+use Rattle.emc2305_fan.specs.declared.Fan.{Fan}
+use Rattle.emc2305_fan.specs.Registers.{bit, byteAt, validCount, closedLoop}
+use Rattle.emc2305_fan.specs.Drive.{underRamp, period, wished}
+use Rattle.emc2305_fan.specs.Spin.{tooSlow}
+use Rattle.emc2305_fan.specs.Tick.{updated, clockTicked, ticked}
+use Rattle.emc2305_fan.specs.Tach.{countHigh, countLow, withReading, sampled, fired}
+use Rattle.emc2305_fan.specs.Status.{standing, stuck, bitRead}
+use Rattle.emc2305_fan.proofs.Steps.{ticks-ramp, ticks-still, healthy}
+use Rattle.emc2305_fan.proofs.Kept.{registers-after, status-after}
+use Rattle.emc2305_fan.proofs.Statuses.{status-read}
+use Rattle.emc2305_watchdog.specs.Watch.{inPowerUp}
+use Rattle.emc2305_chip.specs.declared.Chip.{Chip}
+use Rattle.emc2305_chip.specs.Watching.{fedChip}
+use Rattle.emc2305_chip.specs.Registers.{onFan}
+use Rattle.emc2305_chip.proofs.Promises.{one-fan}
+use Rattle.emc2305.specs.Transfers.{byteRead}
+use Rattle.emc2305.specs.Step.{taken}
+use Rattle.emc2305.proofs.FansKept.{five-fans}
+use Rattle.walks.specs.Sequence.{Handed}
+use Rattle.emc2305_promises.specs.Ramp.{next, isTaken, afterAll, throughout, fanOf}
+use Rattle.emc2305_promises.specs.Held.{registerFor, replyByte, Reads, readsAmong, noReadOf, leftAlone, driven, ticksCanSet, unread, HeldRotor, RotorTurns}
+use Rattle.emc2305_promises.proofs.Events.{by-taken}
+use Rattle.emc2305_promises.proofs.OwnBytes.{reads-count}
+use Rattle.emc2305_promises.proofs.LeftAlone.{Kept, both, of-event, of-events, later-five}
+use Rattle.emc2305_promises.proofs.StatusReads.{reads-keep, stuck-reads, reply-bit, not-among, read-once, by-bit, slow-aside, other-kept, gone-kept, read-there, read-taken}
+
+-- the reading is judged by two registers
+by-registers : (f g : Fan) → byteAt 0x9 g ≡ byteAt 0x9 f → byteAt 0xE g ≡ byteAt 0xE f → tooSlow g ≡ tooSlow f
+unfolding tooSlow
+by-registers f g valid high = rw (valid, high)
+
+fired-past : (f : Fan) (k : ℕ) → 0x2 < k → byteAt k (fired f) ≡ byteAt k f
+fired-past f k h =
+    ap (λ (r : List ℕ). getD r k 0) (registers-after f .4) ∙ getD-set-other (set (f .registers) 0x0 0xFF) 0x2 k _ 0 (λ e. omega (arith, h))
+    ∙ getD-set-other (f .registers) 0x0 k 0xFF 0 (λ e. omega (arith, h))
+
+slow-kept : (slow : Bool) → Kept (λ (f : Fan). tooSlow f ≡ slow)
+slow-kept slow =
+    let at : ℕ → List ℕ → ℕ = λ k r. getD r k 0 in
+    record {
+      of-tick = λ f p. by-registers f (ticked f) (ap (at 0x9) (registers-after f .0)) (ap (at 0xE) (registers-after f .0)) ∙ p;
+      of-firing = λ f p. by-registers f (fired f) (fired-past f 0x9 (omega arith)) (fired-past f 0xE (omega arith)) ∙ p;
+      of-wish = λ w f p. by-registers f (wished w f) (ap (at 0x9) (registers-after f .1 w)) (ap (at 0xE) (registers-after f .1 w)) ∙ p;
+    }
+
+-- a bit that ticks cannot set
+still : (f : Fan) → f .spin .running ≡ false → ticked f .spin .running ≡ false
+unfolding clockTicked updated
+still f e =
+    by-test (underRamp f)
+    (λ u. rw (ticks-ramp f e u) (by-test (leb (period f) (f .clock + 1)) (λ t. rw t e) (λ t. rw t e)))
+    (λ u. rw (ticks-still f e u) e)
+
+wished-still : (w : ℕ) (f : Fan) → f .spin .running ≡ false → wished w f .spin .running ≡ false
+unfolding wished
+wished-still w f e = by-test (closedLoop f) (λ t. rw t e) (λ t. rw t e)
+
+calm-kept : (which : Bit) → Kept (λ (f : Fan). ticksCanSet which f ≡ false)
+unfolding fired
+calm-kept Stall = record { of-tick = λ f p. refl; of-firing = λ f p. refl; of-wish = λ w f p. refl }
+calm-kept Spin = record { of-tick = λ f p. still f p; of-firing = λ f p. refl; of-wish = λ w f p. wished-still w f p }
+
+-- a tick and a bit: it sets one only as a spin-up that fails, and clears none
+ticks-leave : (which : Bit) (f : Fan) → (ticksCanSet which f ≡ true → tooSlow f ≡ false) → standing which (ticked f) ≡ standing which f
+ticks-leave Stall f e = status-after f .0
+ticks-leave Spin f e = status-after f .2 e
+
+ticks-clear-none : (which : Bit) (f : Fan) → standing which f ≡ true → standing which (ticked f) ≡ true
+ticks-clear-none Stall f p = status-after f .0 ∙ p
+ticks-clear-none Spin f p = status-after f .1 p
+
+-- what is kept of a fan, and a bit, where ticks keep it then
+bit-kept : (which : Bit) (stood : Bool) (Q : Fan → Type 0) → Kept Q
+    → ((f : Fan) → Q f → standing which f ≡ stood → standing which (ticked f) ≡ stood) → Kept (λ (f : Fan). Q f × (standing which f ≡ stood))
+bit-kept which stood Q q ticks = record {
+  of-tick = λ f p. (q .of-tick f (p .0), ticks f (p .0) (p .1));
+  of-firing = λ f p. (q .of-firing f (p .0), status-after f .4 which .2 ∙ p .1);
+  of-wish = λ w f p. (q .of-wish w f (p .0), status-after f .4 which .0 w ∙ p .1);
+}
+
+module _ (i : ℕ) where
+  -- stuck, where the event comes
+  stuck-there : (h : Handed) (c : Chip) → driven i h c ≡ true → tooSlow (fanOf i c) ≡ true → stuck (fanOf i c) ≡ true
+  unfolding stuck
+  stuck-there h c q slow = rw slow (and-left (ltb 0 (fanOf i c .drive)) (leftAlone i h c) q)
+
+  -- what is kept of a fan whose rotor is held
+  held-on : (P : Fan → Type 0) → ((f : Fan) → P f → tooSlow f ≡ true) → Kept P → i < 5 → (events : List Handed) (c : Chip) → length (c .fans) ≡ 5
+      → throughout (driven i) events c ≡ true → P (fanOf i c) → P (fanOf i (afterAll events c))
+  held-on P slow keeps l =
+      of-events i P (driven i) l
+      (λ h d there r x.
+      let n = replyLength (h .log) (h .event) in
+      of-event i P keeps h d there (and-right (ltb 0 (fanOf i d .drive)) (leftAlone i h d) r)
+      (λ t. subst P (sym (stuck-reads i n n (fedChip d) there (stuck-there h d r (slow _ x)))) x) x)
+
+pub held-rotor : HeldRotor
+held-rotor which i k c events h (five, l) slow q r reads =
+    let later = afterAll events c in
+    let n = replyLength (h .log) (h .event) in
+    let stood = standing which (fanOf i c) in
+    let shows : tooSlow (fanOf i later) ≡ true → bit i (replyByte k h later) ≡ standing which (fanOf i later) =
+    λ s.
+    reply-bit which i k h later l reads
+    ∙ ap (standing which) (stuck-reads i n k (fedChip later) (omega (arith, later-five events c five)) (stuck-there i h later r s)) in (
+      λ p.
+          let keeps = bit-kept which true (λ (f : Fan). tooSlow f ≡ true) (slow-kept true) (λ f s. ticks-clear-none which f) in
+          let x = held-on i _ (λ f y. y .0) keeps l events c five q (slow, p) in
+          shows (x .0) ∙ x .1,
+      λ calm.
+          let keeps =
+          bit-kept which stood (λ (f : Fan). (tooSlow f ≡ true) × (ticksCanSet which f ≡ false)) (both (slow-kept true) (calm-kept which))
+          (λ f s p. ticks-leave which f (λ can. absurd (true≢false (sym can ∙ s .1))) ∙ p) in
+          let x = held-on i _ (λ f y. y .0 .0) keeps l events c five q ((slow, calm), refl) in
+          shows (x .0 .0) ∙ x .1,
+    )
+
+-- a sample that is not too slow is kept, and nothing else comes of it
+reading-at-most : (l : List ℕ) (i x bound : ℕ) → x ≤ bound → getD (set l i x) i 0 ≤ bound
+reading-at-most l i x bound h =
+    by-test (leb (length l) i)
+    (λ t.
+    let past : length (set l i x) ≤ i = rw (length-set l i x) (leb-true (length l) i t) in
+    rw (List·getD-eq-default (set l i x) 0 past) (omega arith))
+    (λ t. rw (getD-set-same l i x 0 (leb-false (length l) i t)) h)
+
+reading-aside : (f : Fan) (count : ℕ) (which : Bit) → standing which (withReading count f) ≡ standing which f
+unfolding withReading
+reading-aside f count Stall = refl
+reading-aside f count Spin = refl
+
+turning : (count : ℕ) (w : Bool) (f : Fan) → countHigh count ≤ validCount f
+    → (tooSlow (sampled count w f) ≡ false) × ((which : Bit) → standing which (sampled count w f) ≡ standing which f)
+unfolding sampled withReading tooSlow
+turning count w f h =
+    let g = withReading count f in
+    let high = set (f .registers) 0xE (countHigh count) in
+    let slow : tooSlow g ≡ false =
+    le-ltb (byteAt 0x9 g) (byteAt 0xE g)
+    (rw (
+      getD-set-other high 0xF 0x9 (countLow count) 0 (omega arith),
+      getD-set-other (f .registers) 0xE 0x9 (countHigh count) 0 (omega arith),
+      getD-set-other high 0xF 0xE (countLow count) 0 (omega arith),
+    ) (reading-at-most (f .registers) 0xE (countHigh count) (validCount f) h)) in
+    rw (healthy w g slow) (slow, reading-aside f count)
+
+not-stuck : (f : Fan) → tooSlow f ≡ false → stuck f ≡ false
+unfolding stuck
+not-stuck f e = rw e
+
+register-byte : (which : Bit) → registerFor which < 256
+register-byte Stall = omega arith
+register-byte Spin = omega arith
+
+ranged-number : (log : List ℕ) (event : Event) → inRange log event ≡ true → rangeNumber log event ≡ 0
+unfolding rangeNumber
+ranged-number log event e = rw e
+
+-- a fan that turns, with its bit
+module _ (which : Bit) (i : ℕ) where
+  abbrev Turning : Bool → Fan → Type 0
+  Turning stood f = (tooSlow f ≡ false) × (standing which f ≡ stood)
+
+  -- bytes that are not read from its register
+  unread-keeps : (stood : Bool) (n k : ℕ) (c : Chip) → i < length (c .fans) → Turning stood (fanOf i c)
+      → ((j : ℕ) → j < k → repeated j (byteRead n) c .pointer ≡ registerFor which → ⊥) → Turning stood (fanOf i (repeated k (byteRead n) c))
+  unread-keeps stood n k c l p none =
+      reads-keep i (Turning stood) n k c l p
+      (λ j read h at x.
+      let f = fanOf i (repeated j (byteRead n) c) in
+      by-bit which read (λ e. absurd (none j h (rw e at at)))
+      (λ e. (slow-aside read f ∙ x .0, other-kept which read f e ∙ x .1)))
+
+  -- a read that shows the bit, and clears it
+  last-read : (stood : Bool) (k : ℕ) (h : Handed) (c : Chip) → i < 5 → length (c .fans) ≡ 5 → Turning stood (fanOf i c)
+      → Reads (registerFor which) k h c → (bit i (replyByte k h c) ≡ stood) × (standing which (fanOf i (next h c)) ≡ false)
+  unfolding repeated
+  last-read stood k h c l five p (t, short, from) =
+      let n = replyLength (h .log) (h .event) in
+      let d = repeated k (byteRead n) (fedChip c) in
+      let there : i < length (d .fans) = rw (reads-count n k (fedChip c)) (omega arith) in
+      by-taken h c
+      (λ is e ranged.
+      let small : n ≤ 32 = reply-small (h .log) (h .event) (ranged-number (h .log) (h .event) ranged) in
+      let x = unread-keeps stood n k (fedChip c) (omega arith) p
+      (λ j before first. read-once n j k (fedChip c) (registerFor which) (register-byte which) small before short first from) in
+      let cleared : standing which (bitRead which (fanOf i d)) ≡ false =
+      status-read which (fanOf i d) .0 ∙ ap (λ (b : Bool). standing which (fanOf i d) && b) (not-stuck (fanOf i d) (x .0)) ∙ and-false (standing which (fanOf i d)) in
+      let after : standing which (fanOf i (byteRead n d)) ≡ false = ap (standing which) (read-there which i n d there from) ∙ cleared in
+      let rest : standing which (fanOf i (repeated (n - suc k) (byteRead n) (byteRead n d))) ≡ false =
+      reads-keep i (λ (f : Fan). standing which f ≡ false) n (n - suc k) (byteRead n d) (rw (reads-count n 1 d) there) after
+      (λ j read before at y. gone-kept which read _ y) in (
+        reply-bit which i k h c l (t, short, from) ∙ x .1,
+        rw (e, read-taken (h .log) (h .event) c (omega arith), ← first-steps (suc k) n (byteRead n) (fedChip c) (omega arith)) rest,
+      ))
+      (λ isnt e. absurd (true≢false (sym t ∙ isnt)))
+
+pub rotor-turns : RotorTurns
+unfolding taken
+rotor-turns which i k count room log c events h (five, l) t low q reads =
+    let sample : Handed = record { log = log; event = Sample (i + 1) count; room = room } in
+    let stood = standing which (fanOf i c) in
+    let start : Turning which i stood (fanOf i (next sample c)) =
+    by-taken sample c
+    (λ is e ranged.
+    let at : i + 1 - 1 ≡ i = omega arith in
+    let move = sampled count (inPowerUp (c .watch)) in
+    let s = turning count (inPowerUp (c .watch)) (fanOf i c) low in
+    subst (Turning which i stood)
+    (sym (ap (fanOf i) e ∙ ap (λ (j : ℕ). fanOf i (onFan j move c)) at ∙ one-fan c i move .0 (omega arith))) (s .0, s .1 which))
+    (λ isnt e. absurd (true≢false (sym t ∙ isnt))) in
+    let first-five = five-fans c log (Sample (i + 1) count) room five in
+    let keeps = bit-kept which stood (λ (f : Fan). tooSlow f ≡ false) (slow-kept false) (λ f s p. ticks-leave which f (λ can. s) ∙ p) in
+    let end =
+    of-events i (Turning which i stood) (unread (registerFor which) i) l
+    (λ g d there r x.
+    let n = replyLength (g .log) (g .event) in
+    of-event i (Turning which i stood) keeps g d there (and-right (noReadOf (registerFor which) g d) (leftAlone i g d) r)
+    (λ is.
+    let none = not-true (readsAmong (registerFor which) n g d) (rw is at (and-left (noReadOf (registerFor which) g d) (leftAlone i g d) r)) in
+    unread-keeps which i stood n n (fedChip d) there x (λ j before. not-among (registerFor which) n j g d none before))
+    x)
+    events (next sample c) first-five q start in
+    last-read which i stood k h (afterAll events (next sample c)) l (later-five events (next sample c) first-five) end reads
