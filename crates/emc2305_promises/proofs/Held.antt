@@ -1,13 +1,13 @@
 -- A rotor that is held, and one that turns again (specs/Held.antt).
 use mathlib.Core.Path.{_≡_, refl, sym, ap, subst, _∙_}
-use mathlib.Core.Bool.{Bool, true, false, _&&_, true≢false, and-false}
+use mathlib.Core.Bool.{Bool, true, false, _&&_, true≢false, false≢true, and-false}
 use mathlib.Core.List.{List}
 use Prim.Native.Nat.{ℕ, suc, _+_, _-_, _≤_, _<_}
 use native.Mathlib.Omega.{arith}
 use lib.Dec.{leb, ltb}
 use lib.ListN.{length, getD, set, length-set, List·getD-eq-default}
 use lib.Seq.{getD-set-other, getD-set-same}
-use borrow.Author.Tests.{leb-true, leb-false, le-ltb, not-true}
+use borrow.Author.Tests.{leb-true, leb-false, le-ltb, eqb-true, not-true, not-false}
 use Rattle.laws.specs.Repeat.{repeated}
 use Rattle.laws.proofs.Repeat.{first-steps}
 use Rattle.laws.proofs.Tests.{by-test, and-left, and-right}
@@ -35,10 +35,12 @@ use Rattle.emc2305_chip.specs.Registers.{onFan}
 use Rattle.emc2305_chip.proofs.Promises.{one-fan}
 use Rattle.emc2305.specs.Transfers.{byteRead}
 use Rattle.emc2305.specs.Step.{taken}
+use Rattle.emc2305.specs.Traffic.{isSampleOf}
+use Rattle.emc2305.proofs.Effects.{by-effect}
 use Rattle.emc2305.proofs.FansKept.{five-fans}
 use Rattle.walks.specs.Sequence.{Handed}
-use Rattle.emc2305_promises.specs.Ramp.{next, isTaken, afterAll, throughout, fanOf}
-use Rattle.emc2305_promises.specs.Held.{registerFor, replyByte, Reads, readsAmong, noReadOf, leftAlone, driven, ticksCanSet, unread, HeldRotor, RotorTurns}
+use Rattle.emc2305_promises.specs.Ramp.{next, isTaken, afterAll, throughout, fanOf, noPowerOn, noStoredWrite}
+use Rattle.emc2305_promises.specs.Held.{registerFor, replyByte, Reads, readsAmong, noReadOf, noSampleOf, noGoodSample, held, HeldRotor, leftAlone, driven, ticksCanSet, HeldSame, unread, RotorTurns}
 use Rattle.emc2305_promises.proofs.Events.{by-taken}
 use Rattle.emc2305_promises.proofs.OwnBytes.{reads-count}
 use Rattle.emc2305_promises.proofs.LeftAlone.{Kept, both, of-event, of-events, later-five}
@@ -98,42 +100,94 @@ bit-kept which stood Q q ticks = record {
   of-wish = λ w f p. (q .of-wish w f (p .0), status-after f .4 which .0 w ∙ p .1);
 }
 
-module _ (i : ℕ) where
-  -- stuck, where the event comes
-  stuck-there : (h : Handed) (c : Chip) → driven i h c ≡ true → tooSlow (fanOf i c) ≡ true → stuck (fanOf i c) ≡ true
-  unfolding stuck
-  stuck-there h c q slow = rw slow (and-left (ltb 0 (fanOf i c .drive)) (leftAlone i h c) q)
+-- stuck, where an event comes
+stuck-there : (f : Fan) (rest : Bool) → ltb 0 (f .drive) && rest ≡ true → tooSlow f ≡ true → stuck f ≡ true
+unfolding stuck
+stuck-there f rest q slow = rw slow (and-left (ltb 0 (f .drive)) rest q)
 
-  -- what is kept of a fan whose rotor is held
-  held-on : (P : Fan → Type 0) → ((f : Fan) → P f → tooSlow f ≡ true) → Kept P → i < 5 → (events : List Handed) (c : Chip) → length (c .fans) ≡ 5
-      → throughout (driven i) events c ≡ true → P (fanOf i c) → P (fanOf i (afterAll events c))
-  held-on P slow keeps l =
-      of-events i P (driven i) l
-      (λ h d there r x.
-      let n = replyLength (h .log) (h .event) in
-      of-event i P keeps h d there (and-right (ltb 0 (fanOf i d .drive)) (leftAlone i h d) r)
-      (λ t. subst P (sym (stuck-reads i n n (fedChip d) there (stuck-there h d r (slow _ x)))) x) x)
+-- a fan that is stuck, and that a read shows its bit
+shows : (which : Bit) (i k : ℕ) (h : Handed) (c : Chip) → length (c .fans) ≡ 5 → i < 5 → stuck (fanOf i c) ≡ true → Reads (registerFor which) k h c
+    → bit i (replyByte k h c) ≡ standing which (fanOf i c)
+shows which i k h c five l s reads =
+    reply-bit which i k h c l reads
+    ∙ ap (standing which) (stuck-reads i (replyLength (h .log) (h .event)) k (fedChip c) (omega arith) s)
+
+-- an event that does nothing to a fan that is stuck
+stuck-on : (i : ℕ) (P : Fan → Type 0) → Kept P → (h : Handed) (c : Chip) → i < length (c .fans) → leftAlone i h c ≡ true → stuck (fanOf i c) ≡ true
+    → P (fanOf i c) → P (fanOf i (next h c))
+stuck-on i P keeps h c there q s x =
+    let n = replyLength (h .log) (h .event) in
+    of-event i P keeps h c there q (λ t. subst P (sym (stuck-reads i n n (fedChip c) there s)) x) x
+
+pub held-same : HeldSame
+held-same which i k c events h (five, l) slow calm q r reads =
+    let stood = standing which (fanOf i c) in
+    let later = afterAll events c in
+    let P : Fan → Type 0 = λ f. ((tooSlow f ≡ true) × (ticksCanSet which f ≡ false)) × (standing which f ≡ stood) in
+    let keeps =
+    bit-kept which stood (λ (f : Fan). (tooSlow f ≡ true) × (ticksCanSet which f ≡ false)) (both (slow-kept true) (calm-kept which))
+    (λ f s p. ticks-leave which f (λ can. absurd (true≢false (sym can ∙ s .1))) ∙ p) in
+    let x : P (fanOf i later) =
+    of-events i P (driven i) l
+    (λ g d there y p.
+    let f = fanOf i d in
+    stuck-on i P keeps g d there (and-right (ltb 0 (f .drive)) (leftAlone i g d) y) (stuck-there f (leftAlone i g d) y (p .0 .0)) p)
+    events c five q ((slow, calm), refl) in
+    shows which i k h later (later-five events c five) l (stuck-there (fanOf i later) (leftAlone i h later) r (x .0 .0)) reads ∙ x .1
+
+-- a sample leaves a bit that stands
+sample-clears-none : (which : Bit) (count : ℕ) (watch : Bool) (f : Fan) → standing which f ≡ true → standing which (sampled count watch f) ≡ true
+sample-clears-none Stall count watch f p = status-after f .3 count watch .1 p
+sample-clears-none Spin count watch f p = status-after f .3 count watch .0 ∙ p
+
+-- the fan that a sample is of
+sampled-own : (i count : ℕ) (log : List ℕ) (c : Chip) → i < length (c .fans)
+    → fanOf i (taken log (Sample (i + 1) count) c) ≡ sampled count (inPowerUp (c .watch)) (fanOf i c)
+unfolding taken
+sampled-own i count log c there =
+    let at : i + 1 - 1 ≡ i = omega arith in
+    let move = sampled count (inPowerUp (c .watch)) in
+    ap (λ (j : ℕ). fanOf i (onFan j move c)) at ∙ one-fan c i move .0 there
+
+-- an event that is a taken sample of it
+sample-taken : (which : Bit) (i : ℕ) (h : Handed) (c : Chip) → i < length (c .fans) → noSampleOf i h c ≡ false → standing which (fanOf i c) ≡ true
+    → standing which (fanOf i (next h c)) ≡ true
+sample-taken which i h c there some p =
+    by-taken h c
+    (λ t e ranged.
+    ap (λ (d : Chip). standing which (fanOf i d)) e
+    ∙ by-effect (λ (event : Event). isSampleOf i event ≡ true → standing which (fanOf i (taken (h .log) event c)) ≡ true)
+    (λ address y. absurd (false≢true y)) (λ count y. absurd (false≢true y))
+    (λ fan count y. rw (eqb-true fan (i + 1) y, sampled-own i count (h .log) c there) (sample-clears-none which count _ (fanOf i c) p))
+    (λ fan drive y. absurd (false≢true y)) (λ to place n y. absurd (false≢true y)) (λ to place n y. absurd (false≢true y))
+    (λ event idle y. let none : isSampleOf i event ≡ false = idle .no-sample false _ in absurd (true≢false (sym y ∙ none))) (h .event)
+    (not-false (isSampleOf i (h .event)) (rw t at some)))
+    (λ t e. ap (λ (d : Chip). standing which (fanOf i d)) e ∙ p)
+
+-- a bit that stands, over an event while the rotor is held
+held-on : (which : Bit) (i : ℕ) (h : Handed) (c : Chip) → i < length (c .fans) → held i h c ≡ true
+    → (tooSlow (fanOf i c) ≡ true) × (standing which (fanOf i c) ≡ true) → (tooSlow (fanOf i (next h c)) ≡ true) × (standing which (fanOf i (next h c)) ≡ true)
+held-on which i h c there q x =
+    let f = fanOf i c in
+    let P : Fan → Type 0 = λ g. (tooSlow g ≡ true) × (standing which g ≡ true) in
+    let rest = noPowerOn h c && (noGoodSample i h c && noStoredWrite i h c) in
+    let parts = and-right (ltb 0 (f .drive)) rest q in
+    let off = and-left (noPowerOn h c) (noGoodSample i h c && noStoredWrite i h c) parts in
+    let others = and-right (noPowerOn h c) (noGoodSample i h c && noStoredWrite i h c) parts in
+    let bad = and-left (noGoodSample i h c) (noStoredWrite i h c) others in
+    let dry = and-right (noGoodSample i h c) (noStoredWrite i h c) others in
+    let s = stuck-there f rest q (x .0) in
+    by-test (noSampleOf i h c)
+    (λ none.
+    stuck-on i P (bit-kept which true (λ (g : Fan). tooSlow g ≡ true) (slow-kept true) (λ g y. ticks-clear-none which g)) h c there (rw (off, none, dry)) s x)
+    (λ some. (rw some at bad, sample-taken which i h c there some (x .1)))
 
 pub held-rotor : HeldRotor
-held-rotor which i k c events h (five, l) slow q r reads =
+held-rotor which i k c events h (five, l) slow q r reads stood =
     let later = afterAll events c in
-    let n = replyLength (h .log) (h .event) in
-    let stood = standing which (fanOf i c) in
-    let shows : tooSlow (fanOf i later) ≡ true → bit i (replyByte k h later) ≡ standing which (fanOf i later) =
-    λ s.
-    reply-bit which i k h later l reads
-    ∙ ap (standing which) (stuck-reads i n k (fedChip later) (omega (arith, later-five events c five)) (stuck-there i h later r s)) in (
-      λ p.
-          let keeps = bit-kept which true (λ (f : Fan). tooSlow f ≡ true) (slow-kept true) (λ f s. ticks-clear-none which f) in
-          let x = held-on i _ (λ f y. y .0) keeps l events c five q (slow, p) in
-          shows (x .0) ∙ x .1,
-      λ calm.
-          let keeps =
-          bit-kept which stood (λ (f : Fan). (tooSlow f ≡ true) × (ticksCanSet which f ≡ false)) (both (slow-kept true) (calm-kept which))
-          (λ f s p. ticks-leave which f (λ can. absurd (true≢false (sym can ∙ s .1))) ∙ p) in
-          let x = held-on i _ (λ f y. y .0 .0) keeps l events c five q ((slow, calm), refl) in
-          shows (x .0 .0) ∙ x .1,
-    )
+    let rest = noPowerOn h later && (noGoodSample i h later && noStoredWrite i h later) in
+    let x = of-events i (λ (f : Fan). (tooSlow f ≡ true) × (standing which f ≡ true)) (held i) l (held-on which i) events c five q (slow, stood) in
+    shows which i k h later (later-five events c five) l (stuck-there (fanOf i later) rest r (x .0)) reads ∙ x .1
 
 -- a sample that is not too slow is kept, and nothing else comes of it
 reading-at-most : (l : List ℕ) (i x bound : ℕ) → x ≤ bound → getD (set l i x) i 0 ≤ bound
@@ -216,18 +270,14 @@ module _ (which : Bit) (i : ℕ) where
       (λ isnt e. absurd (true≢false (sym t ∙ isnt)))
 
 pub rotor-turns : RotorTurns
-unfolding taken
 rotor-turns which i k count room log c events h (five, l) t low q reads =
     let sample : Handed = record { log = log; event = Sample (i + 1) count; room = room } in
     let stood = standing which (fanOf i c) in
     let start : Turning which i stood (fanOf i (next sample c)) =
     by-taken sample c
     (λ is e ranged.
-    let at : i + 1 - 1 ≡ i = omega arith in
-    let move = sampled count (inPowerUp (c .watch)) in
     let s = turning count (inPowerUp (c .watch)) (fanOf i c) low in
-    subst (Turning which i stood)
-    (sym (ap (fanOf i) e ∙ ap (λ (j : ℕ). fanOf i (onFan j move c)) at ∙ one-fan c i move .0 (omega arith))) (s .0, s .1 which))
+    subst (Turning which i stood) (sym (ap (fanOf i) e ∙ sampled-own i count log c (omega arith))) (s .0, s .1 which))
     (λ isnt e. absurd (true≢false (sym t ∙ isnt))) in
     let first-five = five-fans c log (Sample (i + 1) count) room five in
     let keeps = bit-kept which stood (λ (f : Fan). tooSlow f ≡ false) (slow-kept false) (λ f s p. ticks-leave which f (λ can. s) ∙ p) in

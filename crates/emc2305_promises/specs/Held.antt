@@ -57,6 +57,27 @@ noReadOf register h c = not (isTaken h c && readsAmong register (replyLength (h 
 abbrev pub noSampleOf : ℕ → Handed → Chip → Bool
 noSampleOf i h c = not (isTaken h c && isSampleOf i (h .event))
 
+-- none that makes its reading a good one: after it the high byte is not above Valid Count
+abbrev pub noGoodSample : ℕ → Handed → Chip → Bool
+noGoodSample i h c = noSampleOf i h c || tooSlow (fanOf i (next h c))
+
+-- its rotor is held, and it is driven: its drive is above 0 when the event comes, which is no power-on, no good sample of it, no stored write to its registers
+abbrev pub held : ℕ → Handed → Chip → Bool
+held i h c = ltb 0 (fanOf i c .drive) && (noPowerOn h c && (noGoodSample i h c && noStoredWrite i h c))
+
+-- with the rotor held, the reading being too slow: after any events, among them any number of reads, a read still shows a bit that stood
+abbrev pub HeldRotor : Type 0
+HeldRotor =
+    (which : Bit) (i k : ℕ) (c : Chip) (events : List Handed) (h : Handed)
+    → (length (c .fans) ≡ 5) × (i < 5)
+    → tooSlow (fanOf i c) ≡ true
+    → throughout (held i) events c ≡ true
+    → let later : Chip = afterAll events c in
+    held i h later ≡ true
+    → Reads (registerFor which) k h later
+    → standing which (fanOf i c) ≡ true
+    → bit i (replyByte k h later) ≡ true
+
 -- nothing is done to this fan: no power-on, no sample of it, no stored write to its registers
 abbrev pub leftAlone : ℕ → Handed → Chip → Bool
 leftAlone i h c = noPowerOn h c && (noSampleOf i h c && noStoredWrite i h c)
@@ -70,19 +91,18 @@ abbrev pub ticksCanSet : Bit → Fan → Bool
 ticksCanSet Stall f = false
 ticksCanSet Spin f = f .spin .running
 
--- with the rotor held, the reading being too slow: after any events, among them any number of reads, over which the drive is above 0 and nothing is
--- done to the fan, a read still shows a bit that stood; and shows the bit as it was, where ticks could not set it
-abbrev pub HeldRotor : Type 0
-HeldRotor =
+-- the same without any sample: a read shows the bit as it was, set or not, where ticks cannot set it
+abbrev pub HeldSame : Type 0
+HeldSame =
     (which : Bit) (i k : ℕ) (c : Chip) (events : List Handed) (h : Handed)
     → (length (c .fans) ≡ 5) × (i < 5)
     → tooSlow (fanOf i c) ≡ true
+    → ticksCanSet which (fanOf i c) ≡ false
     → throughout (driven i) events c ≡ true
     → let later : Chip = afterAll events c in
     driven i h later ≡ true
     → Reads (registerFor which) k h later
-    → (standing which (fanOf i c) ≡ true → bit i (replyByte k h later) ≡ true)
-    × (ticksCanSet which (fanOf i c) ≡ false → bit i (replyByte k h later) ≡ standing which (fanOf i c))
+    → bit i (replyByte k h later) ≡ standing which (fanOf i c)
 
 -- until the register is read, and nothing is done to the fan
 abbrev pub unread : ℕ → ℕ → Handed → Chip → Bool
@@ -103,7 +123,7 @@ RotorTurns =
     → (bit i (replyByte k h later) ≡ standing which (fanOf i c)) × (standing which (fanOf i (next h later)) ≡ false)
 
 -- the log samples/held-rotor.log: power-on; a good sample of fan 1, Setting 128 and the 40 ticks of its spin-up; its rotor is held, and a sample shows it
--- then the pointer is set to 25h; 25h is read; 80 ticks, which are a second; 25h is read; a good sample; 25h is read twice
+-- then the pointer is set to 25h; 25h is read; 80 ticks, which are a second, and another such sample; 25h is read; a good sample; 25h is read twice
 abbrev pub heldTrace : List ℕ
 heldTrace =
     laidOut 1 (0x2C ∷ [])
@@ -114,13 +134,14 @@ heldTrace =
     ++ (laidOut 5 (0x58 ∷ 0x25 ∷ [])
     ++ (laidOut 5 (0x59 ∷ 1 ∷ [])
     ++ (laidOut 2 (80 ∷ 0 ∷ [])
+    ++ (laidOut 3 (1 ∷ 0xFF ∷ 0x1F ∷ [])
     ++ (laidOut 5 (0x59 ∷ 1 ∷ [])
-    ++ (laidOut 3 (1 ∷ 0xE8 ∷ 0x03 ∷ []) ++ (laidOut 5 (0x59 ∷ 1 ∷ []) ++ laidOut 5 (0x59 ∷ 1 ∷ [])))))))))))
+    ++ (laidOut 3 (1 ∷ 0xE8 ∷ 0x03 ∷ []) ++ (laidOut 5 (0x59 ∷ 1 ∷ []) ++ laidOut 5 (0x59 ∷ 1 ∷ []))))))))))))
 
--- from its fifth record to its ninth fan 1 is so held, with its bit of 25h set; the replies are 01h, 01h, 01h and 00h
+-- from its fifth record to its tenth fan 1 is so held, with its bit of 25h set; the replies are 01h, 01h, 01h and 00h
 abbrev pub HeldTrace : Type 0
 HeldTrace =
     (tooSlow (fanOf 0 (walkAfter heldTrace 4 5 .state)) ≡ true)
     × (fanOf 0 (walkAfter heldTrace 4 5 .state) .stalled ≡ true)
-    × (throughout (driven 0) (part heldTrace 4 5 4) (walkAfter heldTrace 4 5 .state) ≡ true)
+    × (throughout (held 0) (part heldTrace 4 5 5) (walkAfter heldTrace 4 5 .state) ≡ true)
     × (ended emc2305 heldTrace 4 .walk .replies ≡ 0x01 ∷ 0x01 ∷ 0x01 ∷ 0x00 ∷ [])
