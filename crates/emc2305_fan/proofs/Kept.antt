@@ -1,10 +1,10 @@
 -- What each move leaves in the registers, and of the status bits.
 use mathlib.Core.Path.{_≡_, refl, sym, _∙_}
-use mathlib.Core.Bool.{Bool, true, not, _&&_, true≢false}
+use mathlib.Core.Bool.{Bool, true, not, _&&_, _||_, true≢false, or-false}
 use mathlib.Core.List.{List}
 use Prim.Native.Nat.{ℕ, _+_}
 use lib.Dec.{leb, eqb}
-use Rattle.laws.proofs.Tests.{by-test}
+use Rattle.laws.proofs.Tests.{by-test, and-left, and-right, or-true}
 use Rattle.emc2305_fan.specs.declared.Bit.{Bit}
 use Rattle.emc2305_fan.specs.declared.Bit.the-variants.{Stall, Spin}
 use Rattle.emc2305_fan.specs.declared.Fan.{Fan}
@@ -43,15 +43,17 @@ module _ (P : Fan → Type 0) (aside : Aside P) where
   unfolding spinOver
   of-over f fails p = by-test (tooSlow f) (λ t. rw t (of-failed _ (fails t p))) (λ t. rw t (of-end _ f p))
 
-  of-spin-tick : (f : Fan) → (tooSlow f ≡ true → P f → P (withFailed true f)) → P f → P (spinTick f)
+  of-spin-tick : (f : Fan) → (lastTick (f .spin) ≡ true → tooSlow f ≡ true → P f → P (withFailed true f)) → P f → P (spinTick f)
   unfolding spinTick
-  of-spin-tick f fails p = by-test (lastTick (f .spin)) (λ t. rw t (of-over f fails p)) (λ t. rw t (aside .drives _ _ (aside .spins _ f p)))
+  of-spin-tick f fails p =
+      by-test (lastTick (f .spin)) (λ t. rw t (of-over f (fails t) p)) (λ t. rw t (aside .drives _ _ (aside .spins _ f p)))
 
   of-clock-ticked : (f : Fan) → P f → P (clockTicked f)
   unfolding clockTicked updated
   of-clock-ticked f p = by-test (leb (period f) (f .clock + 1)) (λ t. rw t (aside .drives _ _ (aside .clocks 0 f p))) (λ t. rw t (aside .clocks _ f p))
 
-  of-tick : (f : Fan) → (f .spin .running ≡ true → tooSlow f ≡ true → P f → P (withFailed true f)) → P f → P (ticked f)
+  of-tick : (f : Fan)
+      → (f .spin .running ≡ true → lastTick (f .spin) ≡ true → tooSlow f ≡ true → P f → P (withFailed true f)) → P f → P (ticked f)
   of-tick f fails p =
       by-test (f .spin .running) (λ t. rw (ticks-spin f t) (of-spin-tick f (fails t) p))
       (λ t. by-test (underRamp f) (λ u. rw (ticks-ramp f t u) (of-clock-ticked f p)) (λ u. rw (ticks-still f t u) p))
@@ -106,7 +108,7 @@ pub registers-after : RegistersAfter
 unfolding written withReading fired
 registers-after f =
     let of = registers-aside in (
-      of-tick _ (of (f .registers)) f (λ run slow p. p) refl,
+      of-tick _ (of (f .registers)) f (λ run last slow p. p) refl,
       λ wish. of-wish _ (of (f .registers)) wish f refl,
       λ offset byte. by-test (stores f offset) (λ t. of-stored _ (of (put offset byte f .registers)) offset byte f t refl ∙ rw t) (λ t. rw t),
       λ count watch. of-sample _ (of (withReading count f .registers)) count watch f (λ p. p) refl,
@@ -124,15 +126,39 @@ unfolding fired
 of-fired Stall f = refl
 of-fired Spin f = refl
 
+-- the last tick of a spin-up, with the reading too slow
+fails : (f : Fan) → f .spin .running ≡ true → lastTick (f .spin) ≡ true → tooSlow f ≡ true → ticked f .failed ≡ true
+unfolding spinTick spinOver
+fails f run last slow = rw (ticks-spin f run, last, slow) (of-failed _ (bit-aside Spin true) (withFailed true f) refl)
+
+tick-fails : (f : Fan) → ticked f .failed ≡ (f .failed || (f .spin .running && (lastTick (f .spin) && tooSlow f)))
+unfolding tooSlow
+tick-fails f =
+    let now = f .failed in
+    let test = f .spin .running && (lastTick (f .spin) && tooSlow f) in
+    by-test test
+    (λ t.
+    let run = and-left (f .spin .running) (lastTick (f .spin) && tooSlow f) t in
+    let rest = and-right (f .spin .running) (lastTick (f .spin) && tooSlow f) t in
+    fails f run (and-left (lastTick (f .spin)) (tooSlow f) rest) (and-right (lastTick (f .spin)) (tooSlow f) rest) ∙ sym (or-true now test t))
+    (λ n.
+    of-tick _ (bit-aside Spin now) f (λ run last slow p. absurd (true≢false (rw (run, last, slow) at n))) refl ∙ sym (rw n (or-false now)))
+
+-- a sample that is judged and too slow, and any other
+sample-stalls : (count : ℕ) (watch : Bool) (f : Fan)
+    → let g : Fan = withReading count f in
+    sampled count watch f .stalled ≡ (f .stalled || (judged watch g && tooSlow g))
+unfolding sampled withReading
+sample-stalls count watch f =
+    let g = withReading count f in
+    let test = judged watch g && tooSlow g in
+    by-test test (λ t. rw t (of-stall _ (bit-aside Stall true) g refl ∙ sym (or-true (f .stalled) true refl))) (λ n. rw n (sym (or-false (f .stalled))))
+
 pub status-after : StatusAfter
 unfolding withReading
 status-after f = (
-  of-tick _ (bit-aside Stall (f .stalled)) f (λ run slow p. p) refl,
-  λ e. of-tick _ (bit-aside Spin true) f (λ run slow p. refl) e,
-  λ healthy. of-tick _ (bit-aside Spin (f .failed)) f (λ run slow p. absurd (true≢false (sym slow ∙ healthy run))) refl,
-  λ count watch. (
-    of-sample _ (bit-aside Spin (f .failed)) count watch f (λ p. p) refl,
-    λ e. of-sample _ (bit-aside Stall true) count watch f (λ p. refl) e,
-  ),
+  of-tick _ (bit-aside Stall (f .stalled)) f (λ run last slow p. p) refl,
+  tick-fails f,
+  λ count watch. (sample-stalls count watch f, of-sample _ (bit-aside Spin (f .failed)) count watch f (λ p. p) refl),
   λ which. (λ wish. of-wish _ (bit-aside which (standing which f)) wish f refl, λ offset byte. of-write which offset byte f, of-fired which f),
 )

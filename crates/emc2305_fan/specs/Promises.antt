@@ -14,10 +14,10 @@ use Rattle.emc2305_fan.specs.State.{withDrive, withClock, withFailed}
 use Rattle.emc2305_fan.specs.Registers.{bit, setting, configuration1, configuration2, spinUp, closedLoop, stores}
 use Rattle.emc2305_fan.specs.Ramp.{distance, moved}
 use Rattle.emc2305_fan.specs.Drive.{driverOff, goal, underRamp, step, period, wished}
-use Rattle.emc2305_fan.specs.Spin.{spinLength, spinLevel, spinOn, inSpin, started, ended, tooSlow}
+use Rattle.emc2305_fan.specs.Spin.{spinLength, spinLevel, spinOn, inSpin, started, ended, tooSlow, lastTick}
 use Rattle.emc2305_fan.specs.Tick.{ticked}
 use Rattle.emc2305_fan.specs.Stored.{written}
-use Rattle.emc2305_fan.specs.Tach.{countHigh, countLow, sampled, fired}
+use Rattle.emc2305_fan.specs.Tach.{countHigh, countLow, withReading, judged, sampled, fired}
 use Rattle.emc2305_fan.specs.Status.{standing, other, butStatus, stuck, bitRead}
 
 -- the levels are 30 to 65 percent of 255, rounded down, in steps of 5
@@ -154,15 +154,16 @@ RegistersAfter =
     × ((count : ℕ) (watch : Bool) → sampled count watch f .registers ≡ set (set (f .registers) 0xE (countHigh count)) 0xF (countLow count))
     × (fired f .registers ≡ set (set (f .registers) 0x0 0xFF) 0x2 (configuration1 f % 128))
 
--- what each move leaves of the status bits: a spin-up that fails sets that of 26h, a stall that of 25h, and no move clears one; a wish, a write and the
--- watchdog leave both
+-- what each move leaves of the status bits: the last tick of a spin-up sets that of 26h exactly when the reading is too slow, a sample that of 25h
+-- exactly when it is judged and too slow; a wish, a write and the watchdog leave both, and no move clears one
 abbrev pub StatusAfter : Type 0
 StatusAfter =
     (f : Fan)
     → (ticked f .stalled ≡ f .stalled)
-    × (f .failed ≡ true → ticked f .failed ≡ true)
-    × ((f .spin .running ≡ true → tooSlow f ≡ false) → ticked f .failed ≡ f .failed)
-    × ((count : ℕ) (watch : Bool) → (sampled count watch f .failed ≡ f .failed) × (f .stalled ≡ true → sampled count watch f .stalled ≡ true))
+    × (ticked f .failed ≡ (f .failed || (f .spin .running && (lastTick (f .spin) && tooSlow f))))
+    × ((count : ℕ) (watch : Bool)
+    → let g : Fan = withReading count f in
+    (sampled count watch f .stalled ≡ (f .stalled || (judged watch g && tooSlow g))) × (sampled count watch f .failed ≡ f .failed))
     × ((which : Bit)
     → ((wish : ℕ) → standing which (wished wish f) ≡ standing which f)
     × ((offset byte : ℕ) → standing which (written offset byte f) ≡ standing which f)

@@ -1,6 +1,6 @@
 -- A rotor that is held, and one that turns again (specs/Held.antt).
 use mathlib.Core.Path.{_≡_, refl, sym, ap, subst, _∙_}
-use mathlib.Core.Bool.{Bool, true, false, _&&_, true≢false, false≢true, and-false}
+use mathlib.Core.Bool.{Bool, true, false, _&&_, true≢false, false≢true, and-false, or-false}
 use mathlib.Core.List.{List}
 use Prim.Native.Nat.{ℕ, suc, _+_, _-_, _≤_, _<_}
 use native.Mathlib.Omega.{arith}
@@ -21,7 +21,7 @@ use Rattle.emc2305_fan.specs.declared.Bit.the-variants.{Stall, Spin}
 use Rattle.emc2305_fan.specs.declared.Fan.{Fan}
 use Rattle.emc2305_fan.specs.Registers.{bit, byteAt, validCount, closedLoop}
 use Rattle.emc2305_fan.specs.Drive.{underRamp, period, wished}
-use Rattle.emc2305_fan.specs.Spin.{tooSlow}
+use Rattle.emc2305_fan.specs.Spin.{tooSlow, lastTick}
 use Rattle.emc2305_fan.specs.Tick.{updated, clockTicked, ticked}
 use Rattle.emc2305_fan.specs.Tach.{countHigh, countLow, withReading, sampled, fired}
 use Rattle.emc2305_fan.specs.Status.{standing, stuck, bitRead}
@@ -84,20 +84,23 @@ calm-kept Spin = record { of-tick = λ f p. still f p; of-firing = λ f p. refl;
 
 -- a tick and a bit: it sets one only as a spin-up that fails, and clears none
 ticks-leave : (which : Bit) (f : Fan) → (ticksCanSet which f ≡ true → tooSlow f ≡ false) → standing which (ticked f) ≡ standing which f
+unfolding tooSlow
 ticks-leave Stall f e = status-after f .0
-ticks-leave Spin f e = status-after f .2 e
+ticks-leave Spin f e =
+    status-after f .1
+    ∙ by-test (f .spin .running) (λ t. rw (t, e t, and-false (lastTick (f .spin)), or-false (f .failed))) (λ t. rw (t, or-false (f .failed)))
 
 ticks-clear-none : (which : Bit) (f : Fan) → standing which f ≡ true → standing which (ticked f) ≡ true
 ticks-clear-none Stall f p = status-after f .0 ∙ p
-ticks-clear-none Spin f p = status-after f .1 p
+ticks-clear-none Spin f p = status-after f .1 ∙ rw p
 
 -- what is kept of a fan, and a bit, where ticks keep it then
 bit-kept : (which : Bit) (stood : Bool) (Q : Fan → Type 0) → Kept Q
     → ((f : Fan) → Q f → standing which f ≡ stood → standing which (ticked f) ≡ stood) → Kept (λ (f : Fan). Q f × (standing which f ≡ stood))
 bit-kept which stood Q q ticks = record {
   of-tick = λ f p. (q .of-tick f (p .0), ticks f (p .0) (p .1));
-  of-firing = λ f p. (q .of-firing f (p .0), status-after f .4 which .2 ∙ p .1);
-  of-wish = λ w f p. (q .of-wish w f (p .0), status-after f .4 which .0 w ∙ p .1);
+  of-firing = λ f p. (q .of-firing f (p .0), status-after f .3 which .2 ∙ p .1);
+  of-wish = λ w f p. (q .of-wish w f (p .0), status-after f .3 which .0 w ∙ p .1);
 }
 
 -- stuck, where an event comes
@@ -137,8 +140,8 @@ held-same which i k c events h (five, l) slow calm q r reads =
 
 -- a sample leaves a bit that stands
 sample-clears-none : (which : Bit) (count : ℕ) (watch : Bool) (f : Fan) → standing which f ≡ true → standing which (sampled count watch f) ≡ true
-sample-clears-none Stall count watch f p = status-after f .3 count watch .1 p
-sample-clears-none Spin count watch f p = status-after f .3 count watch .0 ∙ p
+sample-clears-none Stall count watch f p = status-after f .2 count watch .0 ∙ rw p
+sample-clears-none Spin count watch f p = status-after f .2 count watch .1 ∙ p
 
 -- the fan that a sample is of
 sampled-own : (i count : ℕ) (log : List ℕ) (c : Chip) → i < length (c .fans)
