@@ -430,7 +430,7 @@ impl Traffic<'_> {
         self.show(0x24, 1);
     }
 
-    /// Two fans with their bits of 25h and 26h set, one with its rotor held: reads, again and again, while it turns or not.
+    /// Two fans with their rotors held and bits of 25h and 26h set: reads, again and again, while one or the other turns or not.
     fn held_rotor(&mut self) {
         let fans = [self.any_fan(), self.any_fan()];
         for at in fans {
