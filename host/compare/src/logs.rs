@@ -84,6 +84,29 @@ pub fn transferring(transfers: usize) -> Measured {
     Measured::new("block transfers", log)
 }
 
+/// Block writes of any bytes to the fans' registers, so many: 2 to 32 bytes sent, the first from 30h to 7Fh.
+pub fn fan_writes(transfers: usize) -> Measured {
+    let mut chance = Chance::new(13);
+    let mut log = powered();
+    for _ in 0..transfers {
+        let count = chance.between(1, 31);
+        let pointer = chance.between(0x30, 0x7F) as u8;
+        write(&mut log, &[&[pointer][..], &chance.bytes(count)].concat());
+    }
+    Measured::new("block writes to fans", log)
+}
+
+/// Reads of 1 to 32 bytes from any address, so many, each after a write that sets the pointer alone.
+pub fn reads(transfers: usize) -> Measured {
+    let mut chance = Chance::new(17);
+    let mut log = powered();
+    for _ in 0..transfers {
+        write(&mut log, &[chance.byte()]);
+        record(&mut log, 5, &[ADDRESS * 2 + 1, chance.between(1, 32) as u8]);
+    }
+    Measured::new("reads from any address", log)
+}
+
 /// Traffic of every kind, of about so many bytes.
 pub fn mixed(bytes: usize) -> Measured {
     let mut chance = Chance::new(11);

@@ -86,6 +86,8 @@ fn runs(proved: &Proved) {
     } in [
         logs::ticking(2_000),
         logs::transferring(200_000),
+        logs::fan_writes(200_000),
+        logs::reads(200_000),
         logs::mixed(2_000_000),
     ] {
         let (ours, theirs) = run_times(proved, &log);
