@@ -25,12 +25,14 @@ use Rattle.emc2305_fan.proofs.Statuses.{status-read}
 use Rattle.emc2305_watchdog.specs.Watch.{fires}
 use Rattle.emc2305_chip.specs.declared.Chip.{Chip}
 use Rattle.emc2305_chip.specs.declared.Register.{Register}
-use Rattle.emc2305_chip.specs.declared.Register.the-variants.{Configuration, Status, StallStatus, SpinStatus, DriveFailStatus, Enable, Output, OfFan, Lock, Identity, Undefined}
+use Rattle.emc2305_chip.specs.declared.Own.{Own}
+use Rattle.emc2305_chip.specs.declared.Own.the-variants.{Configuration, Status, StallStatus, SpinStatus, DriveFailStatus, Enable, Output, Lock, Identity}
+use Rattle.emc2305_chip.specs.declared.Register.the-variants.{OfFan, OfChip, Undefined}
 use Rattle.emc2305_chip.specs.State.{withPointer}
 use Rattle.emc2305_chip.specs.Map.{registerOf}
 use Rattle.emc2305_chip.specs.Fans.{noFan, fanAt}
 use Rattle.emc2305_chip.specs.Watching.{fedChip}
-use Rattle.emc2305_chip.specs.Registers.{shownOf, isLocked, guarded, writableIn, fanStored, shownAt, storesAt, writtenAt}
+use Rattle.emc2305_chip.specs.Registers.{ownShown, shownOf, isLocked, ownGuarded, guarded, writable, storesIn, fanStored, shownAt, storesAt, writtenAt}
 use Rattle.emc2305_chip.specs.Ticks.{chipTicked}
 use Rattle.emc2305_chip.proofs.Moves.{stored-keeps, written-keeps, tickMove, tick-fans, tick-rest}
 use Rattle.emc2305.specs.Transfers.{byteWritten, inTurn, sent, readOut}
@@ -96,18 +98,21 @@ abbrev Same : Chip → Chip → Type 0
 Same c d = (register : Register) → guarded register ≡ true → shownOf d register ≡ shownOf c register
 
 -- so it is where 20h, EFh and the fans' locked registers do
+own-same : (c d : Chip) → d .configuration ≡ c .configuration → d .lock ≡ c .lock → (own : Own) → ownGuarded own ≡ true → ownShown d own ≡ ownShown c own
+own-same c d e l Configuration g = e
+own-same c d e l Status g = absurd (false≢true g)
+own-same c d e l StallStatus g = absurd (false≢true g)
+own-same c d e l SpinStatus g = absurd (false≢true g)
+own-same c d e l DriveFailStatus g = absurd (false≢true g)
+own-same c d e l Enable g = absurd (false≢true g)
+own-same c d e l (Output i) g = absurd (false≢true g)
+own-same c d e l Lock g = l
+own-same c d e l (Identity i) g = absurd (false≢true g)
+
 same : (c d : Chip) → d .configuration ≡ c .configuration → d .lock ≡ c .lock
     → ((i o : ℕ) → locked o ≡ true → shown (fanAt (d .fans) i) o ≡ shown (fanAt (c .fans) i) o) → Same c d
-same c d e l f Configuration g = e
-same c d e l f Status g = absurd (false≢true g)
-same c d e l f StallStatus g = absurd (false≢true g)
-same c d e l f SpinStatus g = absurd (false≢true g)
-same c d e l f DriveFailStatus g = absurd (false≢true g)
-same c d e l f Enable g = absurd (false≢true g)
-same c d e l f (Output i) g = absurd (false≢true g)
 same c d e l f (OfFan i o) g = f i o g
-same c d e l f Lock g = l
-same c d e l f (Identity i) g = absurd (false≢true g)
+same c d e l f (OfChip own) g = own-same c d e l own g
 same c d e l f Undefined g = absurd (false≢true g)
 
 -- and where none of the three changed
@@ -123,12 +128,13 @@ read-same n c register g =
     (λ d which. same d _ refl refl (λ i o l. all-still o l (bitRead which) (read-still o l which) (d .fans) i) register g)
 
 -- a write that is stored while locked is to no guarded register
-unguarded : (c : Chip) (address : ℕ) → isLocked c ≡ true → storesAt c address ≡ true → not (guarded (registerOf address)) ≡ true
-unfolding storesAt
-unguarded c address k t = rw k at (and-right (writableIn c (registerOf address)) (not (isLocked c && guarded (registerOf address))) t)
+unguarded : (c : Chip) → isLocked c ≡ true → (register : Register) → storesIn c register ≡ true → not (guarded register) ≡ true
+unguarded c k (OfFan i o) t = rw k at (and-right (stores (fanAt (c .fans) i) o) (not (isLocked c && locked o)) t)
+unguarded c k (OfChip own) t = rw k at (and-right (writable own) (not (isLocked c && ownGuarded own)) t)
+unguarded c k Undefined t = refl
 
 write-same : (n byte : ℕ) (c : Chip) → isLocked c ≡ true → Same c (byteWritten n byte c)
-unfolding byteWritten fanStored
+unfolding byteWritten fanStored storesAt
 write-same n byte c k register g =
     let v : Chip → ℕ = λ d. shownOf d register in
     passed-keeps v n (writtenAt (c .pointer) byte c) (λ p. aside _ _ refl refl refl register g)
@@ -139,13 +145,13 @@ write-same n byte c k register g =
     (λ j offset e.
     let free = not-true (locked offset) e in
     same c _ refl refl (λ i o l. one-still o l j _ (c .fans) i (write-still o l offset byte (fanAt (c .fans) j) free)) register g)
-    (λ e. absurd (false≢true e)) (registerOf (c .pointer)) (unguarded c (c .pointer) k t))
+    (λ e. absurd (false≢true e)) (registerOf (c .pointer)) (unguarded c k (registerOf (c .pointer)) t))
 
 turns-same : (n : ℕ) (bytes : List ℕ) (c : Chip) → isLocked c ≡ true → Same c (inTurn n bytes c)
 unfolding inTurn
 turns-same n [] c k register g = refl
 turns-same n (byte ∷ rest) c k register g =
-    turns-same n rest (byteWritten n byte c) (ap (bit 0) (write-same n byte c k Lock refl) ∙ k) register g ∙ write-same n byte c k register g
+    turns-same n rest (byteWritten n byte c) (ap (bit 0) (write-same n byte c k (OfChip Lock) refl) ∙ k) register g ∙ write-same n byte c k register g
 
 sent-same : (bytes : List ℕ) (c : Chip) → isLocked c ≡ true → Same c (sent bytes c)
 unfolding sent
@@ -169,4 +175,4 @@ unfolding shownAt
 locked-kept c log event room k p =
     let kept : Same c (after log event room c) =
     λ register g. after-keeps (λ (d : Chip). shownOf d register) c log event room (taken-same log event c k p register g) in
-    (ap (bit 0) (kept Lock refl) ∙ k, λ address g. kept (registerOf address) g)
+    (ap (bit 0) (kept (OfChip Lock) refl) ∙ k, λ address g. kept (registerOf address) g)

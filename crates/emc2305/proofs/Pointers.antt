@@ -17,8 +17,8 @@ use Rattle.emc2305_chip.specs.State.{withPointer}
 use Rattle.emc2305_chip.specs.Map.{registerOf}
 use Rattle.emc2305_chip.specs.Registers.{fanStored, shownAt, clearedAt, writtenAt}
 use Rattle.emc2305_chip.proofs.Moves.{cleared-keeps, stored-keeps, written-keeps}
-use Rattle.emc2305.specs.Transfers.{pointerPast, passed, byteWritten, inTurn, sent, byteRead, replyOf}
-use Rattle.emc2305.specs.Promises.{Pointer, ReplyBytes, pointerAfter}
+use Rattle.emc2305.specs.Transfers.{pointerPast, pointerAfter, passed, byteWritten, inTurn, sent, byteRead, replyOf}
+use Rattle.emc2305.specs.Promises.{Pointer, ReplyBytes}
 use Rattle.emc2305.proofs.Turns.{reply-length}
 
 -- neither a read nor a write moves the pointer itself

@@ -22,7 +22,7 @@ use Rattle.emc2305_chip.specs.Map.{registerOf}
 use Rattle.emc2305_chip.specs.Fans.{fanAt}
 use Rattle.emc2305_chip.specs.Watching.{fedChip}
 use Rattle.emc2305_chip.specs.Registers.{shownAt, isLocked, guarded}
-use Rattle.emc2305.specs.Transfers.{sent, byteRead, replyOf, readOut}
+use Rattle.emc2305.specs.Transfers.{pointerAfter, sent, byteRead, replyOf, readOut}
 use Rattle.emc2305.specs.Step.{beforePower, elsewhere, stepNumber, taken, replyTo, stepped, replyAfter}
 use Rattle.emc2305.specs.Traffic.{storesTo}
 
@@ -92,10 +92,6 @@ Locked =
     (c : Chip) (log : List ℕ) (event : Event) (room : ℕ) → isLocked c ≡ true → isPowerOn event ≡ false
     → (isLocked (after log event room c) ≡ true)
     × ((address : ℕ) → guarded (registerOf address) ≡ true → shownAt (after log event room c) address ≡ shownAt c address)
-
--- where the pointer stands after k of n data bytes
-abbrev pub pointerAfter : ℕ → ℕ → ℕ → ℕ
-pointerAfter n k pointer = cond (leb n 1) pointer ((pointer + k) % 256)
 
 -- the pointer after any transfer: as it was, where there are no bytes; else by the first byte and the count of data bytes
 abbrev pub Pointer : Type 0

@@ -13,7 +13,11 @@ use Rattle.emc2305_chip.specs.Registers.{shownAt, clearedAt, writtenAt}
 unfoldable pub pointerPast : ℕ → ℕ → ℕ
 pointerPast n pointer = cond (leb n 1) pointer ((pointer + 1) % 256)
 
--- the chip with the pointer there
+-- the pointer after k of n data bytes
+abbrev pub pointerAfter : ℕ → ℕ → ℕ → ℕ
+pointerAfter n k pointer = cond (leb n 1) pointer ((pointer + k) % 256)
+
+-- the chip with the pointer past a data byte of n
 abbrev pub passed : ℕ → Chip → Chip
 passed n c = withPointer (pointerPast n (c .pointer)) c
 

@@ -1,13 +1,11 @@
 // Transfers: the pointer, data bytes written, bytes read.
 use emc2305_chip::Chip;
+use emc2305_chip::Register;
 ghost use mathlib.Core.Path.{_≡_};
 ghost use Prim.Native.Nat.{_≤_};
 ghost use lib.ListN.{length};
 ghost use Rattle.laws.specs.Buffer.{laidOver};
-ghost use Rattle.emc2305.specs.Transfers.{pointerPast, inTurn, sent, replyOf, readOut};
-
-// Where the fans' registers begin, 16 a fan.
-const FIRST_FAN: usize = 0x30;
+ghost use Rattle.emc2305.specs.Transfers.{pointerAfter, inTurn, sent, replyOf, readOut};
 
 // The bytes of a write. The first sets the pointer; with none nothing changes.
 pub(crate) fn sent(mut chip: Chip, bytes: &[u8]) -> Chip
@@ -20,7 +18,8 @@ pub(crate) fn sent(mut chip: Chip, bytes: &[u8]) -> Chip
     in_turn(chip, &bytes[1..])
 }
 
-// The data bytes of a write, in turn. The fans are held apart, so that a byte for one moves that fan and not the chip.
+// The data bytes of a write, in turn. The fans are held apart, and a fan takes all the bytes for it at once, so that they move
+// that fan and not the chip.
 fn in_turn(mut chip: Chip, bytes: &[u8]) -> Chip
     ensures { λ r. ⌜ r ≡ inTurn (length (now (bytes .entry))) (now (bytes .entry)) chip ⌝ }
 {
@@ -29,20 +28,27 @@ fn in_turn(mut chip: Chip, bytes: &[u8]) -> Chip
     let mut pointer = chip.pointer;
     let mut i = 0;
     while i < n {
-        let byte = bytes[i];
-        if emc2305_chip::is_of_fan(pointer) {
-            let at = (pointer as usize - FIRST_FAN) / 0x10;
-            let offset = pointer as usize % 0x10;
-            let fan = fans[at];
-            if emc2305_chip::fan_stores(fan, chip.lock, offset) {
-                fans[at] = fan.write(offset, byte);
-                chip = chip.programmed_by(offset, byte);
+        let mut count = 1;
+        match emc2305_chip::register_of(pointer) {
+            Register::OfFan(at, offset) => {
+                let fan = fans[at];
+                let written = fan.write(offset, &bytes[i..], chip.is_locked());
+                let next = written.fan;
+                fans[at] = next;
+                if written.programmed {
+                    chip = chip.programmed();
+                }
+                count = written.count;
             }
-        } else if emc2305_chip::is_own_writable(pointer) {
-            chip = chip.write(pointer, byte);
+            Register::OfChip(own) => {
+                if emc2305_chip::is_writable(own) {
+                    chip = chip.own_written(own, bytes[i]);
+                }
+            }
+            Register::Undefined => {}
         }
-        pointer = pointer_past(pointer, n);
-        i += 1;
+        pointer = pointer_past(pointer, n, count);
+        i += count;
     }
     chip.pointer = pointer;
     chip.fans = fans;
@@ -58,31 +64,36 @@ pub(crate) fn read_out(mut chip: Chip, n: usize, reply: &mut [u8]) -> Chip
     let mut pointer = chip.pointer;
     let mut i = 0;
     while i < n {
-        if emc2305_chip::is_of_fan(pointer) {
-            let fan = fans[(pointer as usize - FIRST_FAN) / 0x10];
-            reply[i] = fan.register(pointer as usize % 0x10);
-        } else if emc2305_chip::is_outside(pointer) {
-            reply[i] = 0x00;
-        } else {
-            reply[i] = chip.register(pointer);
-            if emc2305_chip::is_cleared(pointer) {
-                chip = chip.cleared(pointer);
+        match emc2305_chip::register_of(pointer) {
+            Register::OfFan(at, offset) => {
+                let fan = fans[at];
+                reply[i] = fan.register(offset);
+            }
+            Register::OfChip(own) => {
+                reply[i] = chip.own_register(own);
+                if emc2305_chip::is_cleared(own) {
+                    chip = chip.own_cleared(own);
+                }
+            }
+            Register::Undefined => {
+                reply[i] = 0x00;
             }
         }
-        pointer = pointer_past(pointer, n);
+        pointer = pointer_past(pointer, n, 1);
         i += 1;
     }
     chip.pointer = pointer;
     chip
 }
 
-// The pointer after a data byte of n: with one it stays, with more it goes up, FFh to 00h.
-fn pointer_past(pointer: u8, n: usize) -> u8
-    ensures { λ r. ⌜ r ≡ pointerPast n pointer ⌝ }
+// The pointer after so many data bytes of n: with one it stays, with more it goes up for each, FFh to 00h.
+fn pointer_past(pointer: u8, n: usize, count: usize) -> u8
+    requires { ⌜ count ≤ 16 ⌝ }
+    ensures { λ r. ⌜ r ≡ pointerAfter n count pointer ⌝ }
 {
     if n <= 1 {
         pointer
     } else {
-        ((pointer as u16 + 1) % 256) as u8
+        ((pointer as usize + count) % 256) as u8
     }
 }

@@ -1,14 +1,17 @@
--- What stands at an address, range by range, and which indices it can have.
-use mathlib.Core.Path.{_≡_, refl, sym, subst, _∙_}
-use mathlib.Core.Bool.{Bool, true, false, cond, not, _||_, false≢true, true≢false}
-use Prim.Native.Nat.{ℕ, _-_, _/_, _%_, _≤_, _<_}
+-- What stands at an address, range by range, and at which address a register stands.
+use mathlib.Core.Path.{_≡_, refl, sym, ap₂, subst, _∙_}
+use mathlib.Core.Bool.{Bool, true, false, cond, true≢false}
+use Prim.Native.Nat.{ℕ, _+_, _-_, _*_, _/_, _%_, _≤_, _<_}
 use native.Mathlib.Omega.{arith}
 use lib.Dec.{leb, eqb}
-use borrow.Author.Tests.{le-leb, lt-leb, leb-true, leb-false, eqb-true, ne-eqb}
-use Rattle.laws.proofs.Tests.{by-test, and-left, and-right, or-left, or-right}
+use borrow.Author.Tests.{le-leb, lt-leb, leb-true, eqb-true, ne-eqb}
+use Rattle.laws.proofs.Tests.{and-left, and-right}
+use Rattle.emc2305_chip.specs.declared.Own.{Own}
+use Rattle.emc2305_chip.specs.declared.Own.the-variants.{Configuration, Status, StallStatus, SpinStatus, DriveFailStatus, Enable, Output, Lock, Identity}
 use Rattle.emc2305_chip.specs.declared.Register.{Register}
-use Rattle.emc2305_chip.specs.declared.Register.the-variants.{Configuration, Status, StallStatus, SpinStatus, DriveFailStatus, Enable, Output, OfFan, Lock, Identity, Undefined}
-use Rattle.emc2305_chip.specs.Map.{within, ownWritable, outside, registerOf}
+use Rattle.emc2305_chip.specs.declared.Register.the-variants.{OfFan, OfChip, Undefined}
+use Rattle.emc2305_chip.specs.Map.{within, registerOf}
+use Rattle.emc2305_chip.specs.Promises.{FanMap, Division}
 
 module _ (a : ℕ) where
   above : (k : ℕ) → k < a → eqb a k ≡ false
@@ -32,10 +35,10 @@ module _ (a : ℕ) where
 
   -- past the single addresses, what holds of the ranges and EFh
   from-2A : (r : Register) → 0x2A ≤ a
-      → (cond (within 0x2A 0x2D a) (Output (a - 0x2A))
+      → (cond (within 0x2A 0x2D a) (OfChip (Output (a - 0x2A)))
       (cond (within 0x30 0x7F a) (OfFan ((a - 0x30) / 0x10) (a % 0x10))
-      (cond (eqb a 0xEF) Lock
-      (cond (within 0xFC 0xFF a) (Identity (a - 0xFC))
+      (cond (eqb a 0xEF) (OfChip Lock)
+      (cond (within 0xFC 0xFF a) (OfChip (Identity (a - 0xFC)))
       Undefined)))) ≡ r → registerOf a ≡ r
   unfolding registerOf
   from-2A r h e =
@@ -50,18 +53,15 @@ module _ (a : ℕ) where
       e
 
   -- 2Ah to 2Dh
-  pub maps-output : 0x2A ≤ a → a ≤ 0x2D → registerOf a ≡ Output (a - 0x2A)
+  pub maps-output : 0x2A ≤ a → a ≤ 0x2D → registerOf a ≡ OfChip (Output (a - 0x2A))
   maps-output h k = from-2A _ h (rw (inside 0x2A 0x2D h k))
 
   -- the fans' registers
   pub maps-fan : 0x30 ≤ a → a ≤ 0x7F → registerOf a ≡ OfFan ((a - 0x30) / 0x10) (a % 0x10)
   maps-fan h k = from-2A _ (omega arith) (rw (over 0x2A 0x2D (omega arith) (omega arith), inside 0x30 0x7F h k))
 
-  pub of-fan : within 0x30 0x7F a ≡ true → registerOf a ≡ OfFan ((a - 0x30) / 0x10) (a % 0x10)
-  of-fan t = maps-fan (leb-true 0x30 a (and-left (leb 0x30 a) (leb a 0x7F) t)) (leb-true a 0x7F (and-right (leb 0x30 a) (leb a 0x7F) t))
-
   -- the identity bytes
-  pub maps-identity : 0xFC ≤ a → a ≤ 0xFF → registerOf a ≡ Identity (a - 0xFC)
+  pub maps-identity : 0xFC ≤ a → a ≤ 0xFF → registerOf a ≡ OfChip (Identity (a - 0xFC))
   maps-identity h k =
       from-2A _ (omega arith)
       (rw (
@@ -86,168 +86,64 @@ module _ (a : ℕ) where
   maps-high h k e =
       from-2A _ (omega arith) (rw (over 0x2A 0x2D (omega arith) (omega arith), over 0x30 0x7F (omega arith) h, e, under 0xFC 0xFF k))
 
+-- the address of one of the chip's own registers
+abbrev pub At : Own → ℕ → Type 0
+At Configuration a = a ≡ 0x20
+At Status a = a ≡ 0x24
+At StallStatus a = a ≡ 0x25
+At SpinStatus a = a ≡ 0x26
+At DriveFailStatus a = a ≡ 0x27
+At Enable a = a ≡ 0x29
+At (Output i) a = (i < 4) × (a ≡ 0x2A + i)
+At Lock a = a ≡ 0xEF
+At (Identity i) a = (i < 4) × (a ≡ 0xFC + i)
+
+-- what is known of a register that stands at an address
+abbrev pub Placed : ℕ → Register → Type 0
+Placed a (OfFan i offset) = (i < 5) × (offset < 16) × (a ≡ 0x30 + (0x10 * i + offset))
+Placed a (OfChip own) = At own a
+Placed a Undefined = Unit {0}
+
 either : (P : Register → Type 0) (t : Bool) {x y : Register} → (t ≡ true → P x) → P y → P (cond t x y)
 either P true f q = f refl
 either P false f q = q
 
--- the largest address of a range
-up-to : (first last a : ℕ) → within first last a ≡ true → a ≤ last
-up-to first last a e = leb-true a last (and-right (leb first a) (leb a last) e)
+-- an address in a range
+between : (first last a : ℕ) → within first last a ≡ true → (first ≤ a) × (a ≤ last)
+between first last a e = (leb-true first a (and-left (leb first a) (leb a last) e), leb-true a last (and-right (leb first a) (leb a last) e))
 
--- what stands at an address, with the indices that it can have; of 20h, that it is the address
-pub by-register : (P : Register → Type 0) (a : ℕ)
-    → (eqb a 0x20 ≡ true → P Configuration) → P Status → P StallStatus → P SpinStatus → P DriveFailStatus → P Enable → ((i : ℕ) → i < 4 → P (Output i))
-    → ((i offset : ℕ) → i < 5 → P (OfFan i offset)) → P Lock → ((i : ℕ) → i < 4 → P (Identity i)) → P Undefined
-    → P (registerOf a)
+-- each register stands at its address
+pub placed : (a : ℕ) → Placed a (registerOf a)
 unfolding registerOf
-by-register P a configuration status stall spin fail enable output ofFan lock identity undefined =
-    either P (eqb a 0x20) configuration
-    (either P (eqb a 0x24) (λ _. status)
-    (either P (eqb a 0x25) (λ _. stall)
-    (either P (eqb a 0x26) (λ _. spin)
-    (either P (eqb a 0x27) (λ _. fail)
-    (either P (eqb a 0x29) (λ _. enable)
-    (either P (within 0x2A 0x2D a) (λ e. output (a - 0x2A) (let h : a ≤ 0x2D = up-to 0x2A 0x2D a e in omega arith))
-    (either P (within 0x30 0x7F a) (λ e. ofFan ((a - 0x30) / 0x10) (a % 0x10) (let h : a ≤ 0x7F = up-to 0x30 0x7F a e in omega arith))
-    (either P (eqb a 0xEF) (λ _. lock)
-    (either P (within 0xFC 0xFF a) (λ e. identity (a - 0xFC) (let h : a ≤ 0xFF = up-to 0xFC 0xFF a e in omega arith)) undefined)))))))))
+placed a =
+    let P = Placed a in
+    either P (eqb a 0x20) (eqb-true a 0x20)
+    (either P (eqb a 0x24) (eqb-true a 0x24)
+    (either P (eqb a 0x25) (eqb-true a 0x25)
+    (either P (eqb a 0x26) (eqb-true a 0x26)
+    (either P (eqb a 0x27) (eqb-true a 0x27)
+    (either P (eqb a 0x29) (eqb-true a 0x29)
+    (either P (within 0x2A 0x2D a) (λ t. let h = between 0x2A 0x2D a t in (omega (arith, h), omega (arith, h)))
+    (either P (within 0x30 0x7F a) (λ t. let h = between 0x30 0x7F a t in (omega (arith, h), omega arith, omega (arith, h)))
+    (either P (eqb a 0xEF) (eqb-true a 0xEF)
+    (either P (within 0xFC 0xFF a) (λ t. let h = between 0xFC 0xFF a t in (omega (arith, h), omega (arith, h))) tt)))))))))
 
--- a register of a fan
-abbrev pub ofSomeFan : Register → Bool
-ofSomeFan Configuration = false
-ofSomeFan Status = false
-ofSomeFan StallStatus = false
-ofSomeFan SpinStatus = false
-ofSomeFan DriveFailStatus = false
-ofSomeFan Enable = false
-ofSomeFan (Output i) = false
-ofSomeFan (OfFan i offset) = true
-ofSomeFan Lock = false
-ofSomeFan (Identity i) = false
-ofSomeFan Undefined = false
+-- whatever stands at an address
+pub by-register : (P : Register → Type 0) (a : ℕ) → ((register : Register) → Placed a register → P register) → P (registerOf a)
+by-register P a f = f (registerOf a) (placed a)
 
--- none stands at an address that is not from 30h to 7Fh
-pub of-no-fan : (a : ℕ) → within 0x30 0x7F a ≡ false → ofSomeFan (registerOf a) ≡ false
-unfolding registerOf
-of-no-fan a f =
-    let P : Register → Type 0 = λ r. ofSomeFan r ≡ false in
-    either P (eqb a 0x20) (λ _. refl)
-    (either P (eqb a 0x24) (λ _. refl)
-    (either P (eqb a 0x25) (λ _. refl)
-    (either P (eqb a 0x26) (λ _. refl)
-    (either P (eqb a 0x27) (λ _. refl)
-    (either P (eqb a 0x29) (λ _. refl)
-    (either P (within 0x2A 0x2D a) (λ _. refl)
-    (either P (within 0x30 0x7F a) (λ t. absurd (true≢false (sym t ∙ f)))
-    (either P (eqb a 0xEF) (λ _. refl) (either P (within 0xFC 0xFF a) (λ _. refl) refl)))))))))
+-- a register that was found there
+pub found-at : (a : ℕ) (found r : Register) → found ≡ registerOf a → found ≡ r → Placed a r
+found-at a found r e f = subst (Placed a) (sym e ∙ f) (placed a)
 
--- a register that can be written
-abbrev pub canStore : Register → Bool
-canStore Configuration = true
-canStore Status = false
-canStore StallStatus = false
-canStore SpinStatus = false
-canStore DriveFailStatus = false
-canStore Enable = true
-canStore (Output i) = true
-canStore (OfFan i offset) = true
-canStore Lock = true
-canStore (Identity i) = false
-canStore Undefined = false
+pub fan-map : FanMap
+fan-map i offset h l =
+    maps-fan (0x30 + (0x10 * i + offset)) (omega arith) (omega arith) ∙ ap₂ OfFan (omega arith) (omega arith)
 
--- none stands at an address that is neither a fan's nor one of the others
-pub stores-nowhere : (a : ℕ) → within 0x30 0x7F a ≡ false → ownWritable a ≡ false → canStore (registerOf a) ≡ false
-unfolding registerOf
-stores-nowhere a f g =
-    let P : Register → Type 0 = λ r. canStore r ≡ false in
-    let m = or-right (eqb a 0x20) (within 0x29 0x2D a || eqb a 0xEF) g in
-    let mid = or-left (within 0x29 0x2D a) (eqb a 0xEF) m in
-    either P (eqb a 0x20) (λ t. absurd (true≢false (sym t ∙ or-left (eqb a 0x20) (within 0x29 0x2D a || eqb a 0xEF) g)))
-    (either P (eqb a 0x24) (λ _. refl)
-    (either P (eqb a 0x25) (λ _. refl)
-    (either P (eqb a 0x26) (λ _. refl)
-    (either P (eqb a 0x27) (λ _. refl)
-    (either P (eqb a 0x29)
-    (λ t. let h : within 0x29 0x2D a ≡ true = rw (eqb-true a 0x29 t) refl in absurd (true≢false (sym h ∙ mid)))
-    (either P (within 0x2A 0x2D a)
-    (λ t.
-    let lo : 0x2A ≤ a = leb-true 0x2A a (and-left (leb 0x2A a) (leb a 0x2D) t) in
-    absurd (true≢false (sym (inside a 0x29 0x2D (omega arith) (up-to 0x2A 0x2D a t)) ∙ mid)))
-    (either P (within 0x30 0x7F a) (λ t. absurd (true≢false (sym t ∙ f)))
-    (either P (eqb a 0xEF) (λ t. absurd (true≢false (sym t ∙ or-right (within 0x29 0x2D a) (eqb a 0xEF) m)))
-    (either P (within 0xFC 0xFF a) (λ _. refl) refl)))))))))
-
--- a register that a read clears something of
-abbrev pub canClear : Register → Bool
-canClear Configuration = false
-canClear Status = true
-canClear StallStatus = true
-canClear SpinStatus = true
-canClear DriveFailStatus = false
-canClear Enable = false
-canClear (Output i) = false
-canClear (OfFan i offset) = false
-canClear Lock = false
-canClear (Identity i) = false
-canClear Undefined = false
-
--- none stands at an address that is not from 24h to 26h
-pub clears-nowhere : (a : ℕ) → within 0x24 0x26 a ≡ false → canClear (registerOf a) ≡ false
-unfolding registerOf
-clears-nowhere a f =
-    let P : Register → Type 0 = λ r. canClear r ≡ false in
-    let not-there : (k : ℕ) → within 0x24 0x26 k ≡ true → eqb a k ≡ true → ⊥
-    = λ k h t. true≢false (sym h ∙ rw (sym (eqb-true a k t)) f) in
-    either P (eqb a 0x20) (λ _. refl)
-    (either P (eqb a 0x24) (λ t. absurd (not-there 0x24 refl t))
-    (either P (eqb a 0x25) (λ t. absurd (not-there 0x25 refl t))
-    (either P (eqb a 0x26) (λ t. absurd (not-there 0x26 refl t))
-    (either P (eqb a 0x27) (λ _. refl)
-    (either P (eqb a 0x29) (λ _. refl)
-    (either P (within 0x2A 0x2D a) (λ _. refl)
-    (either P (within 0x30 0x7F a) (λ _. refl)
-    (either P (eqb a 0xEF) (λ _. refl) (either P (within 0xFC 0xFF a) (λ _. refl) refl)))))))))
-
--- nothing stands outside the stretches that have registers
-not-true : (b : Bool) → not b ≡ true → b ≡ false
-not-true true e = absurd (false≢true e)
-not-true false e = refl
-
-pub nothing-outside : (a : ℕ) → outside a ≡ true → registerOf a ≡ Undefined
-nothing-outside a o =
-    let n = not-true (within 0x20 0x7F a || (eqb a 0xEF || within 0xFC 0xFF a)) o in
-    let m = or-right (within 0x20 0x7F a) (eqb a 0xEF || within 0xFC 0xFF a) n in
-    by-test (leb 0x20 a)
-    (λ t.
-    let f : leb a 0x7F ≡ false = rw t at (or-left (within 0x20 0x7F a) (eqb a 0xEF || within 0xFC 0xFF a) n) in
-    let h : 0x7F < a = leb-false a 0x7F f in
-    from-2A a Undefined (omega arith)
-    (rw (
-      over a 0x2A 0x2D (omega arith) (omega arith),
-      over a 0x30 0x7F (omega arith) h,
-      or-left (eqb a 0xEF) (within 0xFC 0xFF a) m,
-      or-right (eqb a 0xEF) (within 0xFC 0xFF a) m,
-    )))
-    (λ f.
-    let h : a < 0x20 = leb-false 0x20 a f in
-    maps-low a (omega arith) (below a 0x20 h) (below a 0x24 (omega arith)) (below a 0x25 (omega arith)) (below a 0x26 (omega arith))
-    (below a 0x27 (omega arith)) (below a 0x29 (omega arith)))
-
--- the index that a register can have
-abbrev pub Placed : Register → Type 0
-Placed Configuration = Unit {0}
-Placed Status = Unit {0}
-Placed StallStatus = Unit {0}
-Placed SpinStatus = Unit {0}
-Placed DriveFailStatus = Unit {0}
-Placed Enable = Unit {0}
-Placed (Output i) = i < 4
-Placed (OfFan i offset) = i < 5
-Placed Lock = Unit {0}
-Placed (Identity i) = i < 4
-Placed Undefined = Unit {0}
-
--- the index of a register that a match has found
-pub placed-at : (a : ℕ) (found r : Register) → found ≡ registerOf a → found ≡ r → Placed r
-placed-at a found r e f =
-    subst Placed (sym e ∙ f) (by-register Placed a (λ _. tt) tt tt tt tt tt (λ i h. h) (λ i offset h. h) tt (λ i h. h) tt)
+pub division : Division
+division a = (
+  λ t. let h = between 3 7 (a / 16) t in maps-fan a (omega (arith, h)) (omega (arith, h)) ∙ ap₂ OfFan (omega (arith, h)) refl,
+  λ f i offset e.
+      let p = found-at a (registerOf a) (OfFan i offset) refl e in
+      true≢false (sym (inside (a / 16) 3 7 (omega (arith, p)) (omega (arith, p))) ∙ f),
+)

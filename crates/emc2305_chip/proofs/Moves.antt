@@ -15,44 +15,58 @@ use Rattle.emc2305_fan.specs.Tach.{fired}
 use Rattle.emc2305_fan.specs.Status.{bitRead}
 use Rattle.emc2305_watchdog.specs.Watch.{fires}
 use Rattle.emc2305_chip.specs.declared.Chip.{Chip}
+use Rattle.emc2305_chip.specs.declared.Own.{Own}
+use Rattle.emc2305_chip.specs.declared.Own.the-variants.{Configuration, Status, StallStatus, SpinStatus, DriveFailStatus, Enable, Output, Lock, Identity}
 use Rattle.emc2305_chip.specs.declared.Register.{Register}
-use Rattle.emc2305_chip.specs.declared.Register.the-variants.{Configuration, Status, StallStatus, SpinStatus, DriveFailStatus, Enable, Output, OfFan, Lock, Identity, Undefined}
+use Rattle.emc2305_chip.specs.declared.Register.the-variants.{OfFan, OfChip, Undefined}
 use Rattle.emc2305_chip.specs.State.{withFans, withEnable, withOutputs, withLock, withExpired}
 use Rattle.emc2305_chip.specs.Map.{registerOf}
-use Rattle.emc2305_chip.specs.Registers.{clearedOf, storesAt, storedOf, fanStored, writtenAt}
+use Rattle.emc2305_chip.specs.Registers.{ownCleared, clearedOf, storesAt, ownStored, storedOf, fanStored, writtenAt}
 use Rattle.emc2305_chip.specs.Ticks.{allFired, allTicked, chipTicked}
 
 module _ {B : Type 0} (v : Chip → B) where
   -- a read, of each register
+  own-cleared-keeps : (c : Chip) → v (withExpired false c) ≡ v c → ((which : Bit) → v (withFans (map (bitRead which) (c .fans)) c) ≡ v c)
+      → (own : Own) → v (ownCleared own c) ≡ v c
+  own-cleared-keeps c e f Configuration = refl
+  own-cleared-keeps c e f Status = e
+  own-cleared-keeps c e f StallStatus = f Stall
+  own-cleared-keeps c e f SpinStatus = f Spin
+  own-cleared-keeps c e f DriveFailStatus = refl
+  own-cleared-keeps c e f Enable = refl
+  own-cleared-keeps c e f (Output i) = refl
+  own-cleared-keeps c e f Lock = refl
+  own-cleared-keeps c e f (Identity i) = refl
+
   pub cleared-keeps : (c : Chip) → v (withExpired false c) ≡ v c → ((which : Bit) → v (withFans (map (bitRead which) (c .fans)) c) ≡ v c)
       → (register : Register) → v (clearedOf register c) ≡ v c
-  cleared-keeps c e f Configuration = refl
-  cleared-keeps c e f Status = e
-  cleared-keeps c e f StallStatus = f Stall
-  cleared-keeps c e f SpinStatus = f Spin
-  cleared-keeps c e f DriveFailStatus = refl
-  cleared-keeps c e f Enable = refl
-  cleared-keeps c e f (Output i) = refl
   cleared-keeps c e f (OfFan i offset) = refl
-  cleared-keeps c e f Lock = refl
-  cleared-keeps c e f (Identity i) = refl
+  cleared-keeps c e f (OfChip own) = own-cleared-keeps c e f own
   cleared-keeps c e f Undefined = refl
 
   -- a stored write, of each register that passes a test
-  pub stored-keeps : (passes : Register → Bool) (byte : ℕ) (c : Chip) → (passes Configuration ≡ true → v (storedOf Configuration byte c) ≡ v c)
-      → v (withEnable byte c) ≡ v c → ((i : ℕ) → v (withOutputs (set (c .outputs) i byte) c) ≡ v c)
-      → ((i offset : ℕ) → passes (OfFan i offset) ≡ true → v (fanStored i offset byte c) ≡ v c) → (passes Lock ≡ true → v (withLock byte c) ≡ v c)
+  pub own-stored-keeps : (passes : Register → Bool) (byte : ℕ) (c : Chip)
+      → (passes (OfChip Configuration) ≡ true → v (ownStored Configuration byte c) ≡ v c) → v (withEnable byte c) ≡ v c
+      → ((i : ℕ) → v (withOutputs (set (c .outputs) i byte) c) ≡ v c) → (passes (OfChip Lock) ≡ true → v (withLock byte c) ≡ v c)
+      → (own : Own) → passes (OfChip own) ≡ true → v (ownStored own byte c) ≡ v c
+  own-stored-keeps passes byte c h e o l Configuration t = h t
+  own-stored-keeps passes byte c h e o l Status t = refl
+  own-stored-keeps passes byte c h e o l StallStatus t = refl
+  own-stored-keeps passes byte c h e o l SpinStatus t = refl
+  own-stored-keeps passes byte c h e o l DriveFailStatus t = refl
+  own-stored-keeps passes byte c h e o l Enable t = e
+  own-stored-keeps passes byte c h e o l (Output i) t = o i
+  own-stored-keeps passes byte c h e o l Lock t = l t
+  own-stored-keeps passes byte c h e o l (Identity i) t = refl
+
+  pub stored-keeps : (passes : Register → Bool) (byte : ℕ) (c : Chip)
+      → (passes (OfChip Configuration) ≡ true → v (ownStored Configuration byte c) ≡ v c) → v (withEnable byte c) ≡ v c
+      → ((i : ℕ) → v (withOutputs (set (c .outputs) i byte) c) ≡ v c)
+      → ((i offset : ℕ) → passes (OfFan i offset) ≡ true → v (fanStored i offset byte c) ≡ v c)
+      → (passes (OfChip Lock) ≡ true → v (withLock byte c) ≡ v c)
       → (register : Register) → passes register ≡ true → v (storedOf register byte c) ≡ v c
-  stored-keeps passes byte c h e o f l Configuration t = h t
-  stored-keeps passes byte c h e o f l Status t = refl
-  stored-keeps passes byte c h e o f l StallStatus t = refl
-  stored-keeps passes byte c h e o f l SpinStatus t = refl
-  stored-keeps passes byte c h e o f l DriveFailStatus t = refl
-  stored-keeps passes byte c h e o f l Enable t = e
-  stored-keeps passes byte c h e o f l (Output i) t = o i
   stored-keeps passes byte c h e o f l (OfFan i offset) t = f i offset t
-  stored-keeps passes byte c h e o f l Lock t = l t
-  stored-keeps passes byte c h e o f l (Identity i) t = refl
+  stored-keeps passes byte c h e o f l (OfChip own) t = own-stored-keeps passes byte c h e o l own t
   stored-keeps passes byte c h e o f l Undefined t = refl
 
   -- a write, where it keeps what it stores

@@ -1,5 +1,5 @@
--- Where the fans' registers stand, the status bytes and what clears them, the alert line.
-use mathlib.Core.Path.{_≡_, refl, sym, ap, ap₂, _∙_}
+-- The status bytes and what clears them, the alert line.
+use mathlib.Core.Path.{_≡_, refl, sym, ap, _∙_}
 use mathlib.Core.Bool.{Bool, true, false, cond, not, _&&_, _||_, false≢true, or-true}
 use mathlib.Core.List.{List, map}
 use Prim.Native.Nat.{ℕ, zero, suc, _+_, _*_, _<_}
@@ -17,18 +17,12 @@ use Rattle.emc2305_fan.specs.Spin.{tooSlow}
 use Rattle.emc2305_fan.specs.Registers.{bit}
 use Rattle.emc2305_fan.specs.Status.{standing, other, stuck, bitRead}
 use Rattle.emc2305_fan.proofs.Statuses.{status-read}
-use Rattle.emc2305_chip.specs.declared.Register.the-variants.{OfFan}
 use Rattle.emc2305_chip.specs.Map.{registerOf}
 use Rattle.emc2305_chip.specs.Fans.{noFan, fanAt, bitsOf, interrupts, interrupting}
 use Rattle.emc2305_chip.specs.Registers.{stallByte, spinByte, clearedAt}
-use Rattle.emc2305_chip.specs.Promises.{FanMap, StatusBits, ReadClears, Alert}
-use Rattle.emc2305_chip.proofs.Maps.{maps-fan}
+use Rattle.emc2305_chip.specs.Promises.{StatusBits, ReadClears, Alert}
 use Rattle.emc2305_chip.proofs.Bits.{bits-small}
 use Rattle.emc2305_chip.proofs.Ways.{masked, alert-watch, alert-fans}
-
-pub fan-map : FanMap
-fan-map i offset h l =
-    maps-fan (0x30 + (0x10 * i + offset)) (omega arith) (omega arith) ∙ ap₂ OfFan (omega arith) (omega arith)
 
 module _ (which : Bit) (fans : List Fan) where
   -- the bit of a fan is that of its status

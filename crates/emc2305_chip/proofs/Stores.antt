@@ -8,18 +8,19 @@ use lib.ListN.{length, getD}
 use lib.Seq.{getD-set-same}
 use Rattle.laws.proofs.Tests.{and-left}
 use Rattle.emc2305_fan.specs.declared.Fan.{Fan}
-use Rattle.emc2305_fan.specs.Registers.{shown, stores}
+use Rattle.emc2305_fan.specs.Registers.{shown, stores, locked}
 use Rattle.emc2305_fan.specs.Stored.{written}
 use Rattle.emc2305_fan.proofs.Kept.{registers-after}
 use Rattle.emc2305_fan.proofs.Offsets.{shows-byte, stores-hole, stores-within}
 use Rattle.emc2305_chip.specs.declared.Chip.{Chip}
+use Rattle.emc2305_chip.specs.declared.Own.{Own}
+use Rattle.emc2305_chip.specs.declared.Own.the-variants.{Configuration, Status, StallStatus, SpinStatus, DriveFailStatus, Enable, Output, Lock, Identity}
 use Rattle.emc2305_chip.specs.declared.Register.{Register}
-use Rattle.emc2305_chip.specs.declared.Register.the-variants.{OfFan}
-use Rattle.emc2305_chip.specs.Map.{registerOf}
+use Rattle.emc2305_chip.specs.declared.Register.the-variants.{OfFan, OfChip, Undefined}
 use Rattle.emc2305_chip.specs.Fans.{noFan, fanAt}
-use Rattle.emc2305_chip.specs.Registers.{shownOf, isLocked, guarded, fanStored, storesIn, storedOf, shownAt, storesAt}
+use Rattle.emc2305_chip.specs.Registers.{ownShown, shownOf, isLocked, ownStores, storesIn, fanStored, ownStored, storedOf, shownAt, storesAt}
 use Rattle.emc2305_chip.specs.Promises.{ReadBack}
-use Rattle.emc2305_chip.proofs.Maps.{by-register}
+use Rattle.emc2305_chip.proofs.Maps.{At, Placed, by-register}
 use Rattle.emc2305_chip.proofs.Ways.{writes, writes-nothing}
 
 -- a fan's register, but for Setting
@@ -34,24 +35,35 @@ fan-back f offset byte len t n =
 
 module _ (c : Chip) (byte : ℕ) (five : length (c .fans) ≡ 5) (four : length (c .outputs) ≡ 4)
     (whole : (i : ℕ) → i < 5 → length (fanAt (c .fans) i .registers) ≡ 16) where
+  -- one of the chip's own registers
+  own-back : (a : ℕ) (own : Own) → At own a → ownStores c own ≡ true → ownShown (ownStored own byte c) own ≡ byte
+  own-back a Configuration p t = refl
+  own-back a Status p t = absurd (false≢true t)
+  own-back a StallStatus p t = absurd (false≢true t)
+  own-back a SpinStatus p t = absurd (false≢true t)
+  own-back a DriveFailStatus p t = absurd (false≢true t)
+  own-back a Enable p t = refl
+  own-back a (Output i) p t = let h = p .0 in getD-set-same (c .outputs) i byte 0 (omega arith)
+  own-back a Lock p t = refl
+  own-back a (Identity i) p t = absurd (false≢true t)
+
   -- a register that is written reads back
   abbrev Back : Register → Type 0
   Back r = storesIn c r ≡ true → ((i : ℕ) → r ≡ OfFan i 0x0 → ⊥) → shownOf (storedOf r byte c) r ≡ byte
 
-  back : (a : ℕ) → Back (registerOf a)
+  back : (a : ℕ) (register : Register) → Placed a register → Back register
   unfolding fanStored
-  back a =
-      by-register Back a (λ _ _ _. refl) (λ t. absurd (false≢true t)) (λ t. absurd (false≢true t)) (λ t. absurd (false≢true t)) (λ t. absurd (false≢true t))
-      (λ _ _. refl) (λ i h _ _. getD-set-same (c .outputs) i byte 0 (omega arith))
-      (λ i offset h t n.
+  back a (OfFan i offset) p t n =
       let f = fanAt (c .fans) i in
+      let h = p .0 in
       ap (λ (g : Fan). shown g offset) (getD-set-same (c .fans) i (written offset byte f) noFan (omega arith))
-      ∙ fan-back f offset byte (whole i h) (and-left (stores f offset) (not (isLocked c && guarded (OfFan i offset))) t) (λ e. n i (ap (OfFan i) e)))
-      (λ _ _. refl) (λ i h t. absurd (false≢true t)) (λ t. absurd (false≢true t))
+      ∙ fan-back f offset byte (whole i h) (and-left (stores f offset) (not (isLocked c && locked offset)) t) (λ e. n i (ap (OfFan i) e))
+  back a (OfChip own) p t n = own-back a own p t
+  back a Undefined p t n = absurd (false≢true t)
 
 pub read-back : ReadBack
 unfolding shownAt storesAt
 read-back c address byte five four whole = (
   λ e. sym (writes-nothing c address byte e),
-  λ t n. rw (← writes c address byte t) (back c byte five four whole address t n),
+  λ t n. rw (← writes c address byte t) (by-register (Back c byte five four whole) address (back c byte five four whole address) t n),
 )

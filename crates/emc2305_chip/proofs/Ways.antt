@@ -1,11 +1,11 @@
 -- One law for each way through a function of the chip.
 use mathlib.Core.Path.{_≡_, refl, sym, ap, _∙_}
-use mathlib.Core.Bool.{Bool, true, false, cond, not, _&&_, and-true, and-false}
+use mathlib.Core.Bool.{Bool, true, false, cond, not}
 use mathlib.Core.List.{List}
 use Prim.Native.Nat.{ℕ, _+_, _≤_}
 use native.Mathlib.Omega.{arith}
 use lib.Dec.{eqb}
-use lib.ListN.{length}
+use lib.ListN.{length, getD, set, List·getD-eq-default}
 use lib.Seq.{set-out}
 use Rattle.emc2305_fan.specs.declared.Fan.{Fan}
 use Rattle.emc2305_fan.specs.Registers.{bit}
@@ -14,7 +14,7 @@ use Rattle.emc2305_chip.specs.declared.Chip.{Chip}
 use Rattle.emc2305_chip.specs.State.{withFans, withWatch}
 use Rattle.emc2305_chip.specs.Map.{registerOf}
 use Rattle.emc2305_chip.specs.Fans.{fanAt, interrupting}
-use Rattle.emc2305_chip.specs.Registers.{onFan, stallByte, spinByte, statusByte, alertLine, isLocked, guarded, writableIn, storesAt, storedOf, writtenAt}
+use Rattle.emc2305_chip.specs.Registers.{onFan, stallByte, spinByte, statusByte, alertLine, storesAt, storedOf, writtenAt}
 use Rattle.emc2305_chip.specs.Ticks.{allFired, allTicked, chipTicked}
 
 -- a flag is at most its weight; and one that stands where a test fails
@@ -30,6 +30,14 @@ module _ (c : Chip) where
   -- past the five fans there is none to change
   pub past-fans : (i : ℕ) (move : Fan → Fan) {k : ℕ} → k ≡ length (c .fans) → k ≡ 5 → 5 ≤ i → c ≡ onFan i move c
   past-fans i move e f h = ap (λ (l : List Fan). withFans l c) (sym (set-out (c .fans) i (move (fanAt (c .fans) i)) (omega arith)))
+
+  -- past 2Dh there is no output
+  pub past-outputs : (i byte : ℕ) {k : ℕ} → k ≡ length (c .outputs) → k ≡ 4 → 4 ≤ i
+      → (0 ≡ getD (c .outputs) i 0) × (c .outputs ≡ set (c .outputs) i byte)
+  past-outputs i byte e f h = (
+    sym (List·getD-eq-default (c .outputs) 0 {n = i} (omega arith)),
+    sym (set-out (c .outputs) i byte (omega arith)),
+  )
 
   -- 24h
   pub status-sum : (spin stall a b d : ℕ) → spin ≡ spinByte c → stall ≡ stallByte c
@@ -59,17 +67,8 @@ module _ (c : Chip) where
   unfolding chipTicked
   tick-goes e = ap (λ (t : Bool). withWatch (watchTicked (c .watch)) (cond t (allFired c) (allTicked c))) (sym e)
 
-  -- whether a write is stored
+  -- a write
   module _ (address : ℕ) where
-    pub forbidden : isLocked c && guarded (registerOf address) ≡ true → false ≡ storesAt c address
-    unfolding storesAt
-    forbidden e = sym (ap (λ (t : Bool). writableIn c (registerOf address) && not t) e ∙ and-false (writableIn c (registerOf address)))
-
-    pub allowed : isLocked c && guarded (registerOf address) ≡ false → writableIn c (registerOf address) ≡ storesAt c address
-    unfolding storesAt
-    allowed e = sym (ap (λ (t : Bool). writableIn c (registerOf address) && not t) e ∙ and-true (writableIn c (registerOf address)))
-
-    -- a write
     pub writes : (byte : ℕ) → storesAt c address ≡ true → storedOf (registerOf address) byte c ≡ writtenAt address byte c
     unfolding writtenAt
     writes byte e = ap (λ (t : Bool). cond t (storedOf (registerOf address) byte c) c) (sym e)

@@ -15,8 +15,8 @@ use Rattle.emc2305_fan.specs.Status.{stuck}
 use Rattle.emc2305_watchdog.specs.declared.Watch.the-variants.{Off}
 use Rattle.emc2305_watchdog.specs.Watch.{fires, watchTicked, programmed, configured}
 use Rattle.emc2305_chip.specs.declared.Chip.{Chip}
-use Rattle.emc2305_chip.specs.declared.Register.the-variants.{OfFan, Undefined}
-use Rattle.emc2305_chip.specs.Map.{within, ownWritable, outside, registerOf, isOfFan}
+use Rattle.emc2305_chip.specs.declared.Register.the-variants.{OfFan}
+use Rattle.emc2305_chip.specs.Map.{within, registerOf, isOfFan}
 use Rattle.emc2305_chip.specs.Fans.{fanAt}
 use Rattle.emc2305_chip.specs.Registers.{atDefaults, onFan, stallByte, spinByte, statusByte, alertLine, shownAt, clearedAt, storesAt, writtenAt}
 use Rattle.emc2305_chip.specs.Ticks.{chipTicked}
@@ -94,15 +94,13 @@ Defaults = (address : ℕ) → shownBelow 256 (atDefaults true address) ≡ allD
 abbrev pub FanMap : Type 0
 FanMap = (i offset : ℕ) → i < 5 → offset < 16 → registerOf (0x30 + (0x10 * i + offset)) ≡ OfFan i offset
 
--- what the four tests of an address say: whether it is a fan's; outside, where nothing stands; that a read clears nothing; that a write stores nothing
-abbrev pub Ranges : Type 0
-Ranges =
+-- division and ranges agree for every address: a fan's register stands there just where address / 16 is 3 to 7, and then it is that of the fan
+-- address / 16 - 3, from 0, at the offset address % 16
+abbrev pub Division : Type 0
+Division =
     (a : ℕ)
-    → (within 0x30 0x7F a ≡ true → registerOf a ≡ OfFan ((a - 0x30) / 0x10) (a % 0x10))
-    × (within 0x30 0x7F a ≡ false → (i offset : ℕ) → registerOf a ≡ OfFan i offset → ⊥)
-    × (outside a ≡ true → registerOf a ≡ Undefined)
-    × ((c : Chip) → within 0x24 0x26 a ≡ false → clearedAt a c ≡ c)
-    × ((c : Chip) (byte : ℕ) → within 0x30 0x7F a ≡ false → ownWritable a ≡ false → writtenAt a byte c ≡ c)
+    → (within 3 7 (a / 16) ≡ true → registerOf a ≡ OfFan (a / 16 - 3) (a % 16))
+    × (within 3 7 (a / 16) ≡ false → (i offset : ℕ) → registerOf a ≡ OfFan i offset → ⊥)
 
 -- 25h and 26h: bit i for fan i + 1, and no other bit; 24h: bit 7 WATCH, bit 1 any of 26h, bit 0 any of 25h
 abbrev pub StatusBits : Type 0

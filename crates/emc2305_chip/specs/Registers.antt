@@ -6,13 +6,15 @@ use lib.Dec.{eqb}
 use lib.ListN.{getD, set}
 use Rattle.emc2305_fan.specs.declared.Bit.the-variants.{Stall, Spin}
 use Rattle.emc2305_fan.specs.declared.Fan.{Fan}
-use Rattle.emc2305_fan.specs.Registers.{bit, powerOn, shown, stores, locked}
-use Rattle.emc2305_fan.specs.Stored.{written}
+use Rattle.emc2305_fan.specs.Registers.{bit, powerOn, shown, locked}
+use Rattle.emc2305_fan.specs.Stored.{written, takes}
 use Rattle.emc2305_fan.specs.Status.{bitRead}
 use Rattle.emc2305_watchdog.specs.declared.Watch.the-variants.{PowerUp}
 use Rattle.emc2305_chip.specs.declared.Chip.{Chip}
+use Rattle.emc2305_chip.specs.declared.Own.{Own}
+use Rattle.emc2305_chip.specs.declared.Own.the-variants.{Configuration, Status, StallStatus, SpinStatus, DriveFailStatus, Enable, Output, Lock, Identity}
 use Rattle.emc2305_chip.specs.declared.Register.{Register}
-use Rattle.emc2305_chip.specs.declared.Register.the-variants.{Configuration, Status, StallStatus, SpinStatus, DriveFailStatus, Enable, Output, OfFan, Lock, Identity, Undefined}
+use Rattle.emc2305_chip.specs.declared.Register.the-variants.{OfFan, OfChip, Undefined}
 use Rattle.emc2305_chip.specs.State.{withFans, withConfiguration, withEnable, withOutputs, withLock, withExpired}
 use Rattle.emc2305_chip.specs.Map.{registerOf}
 use Rattle.emc2305_chip.specs.Fans.{fanAt, bitsOf, interrupting}
@@ -62,90 +64,122 @@ alertLine c = not (bit 7 (c .configuration)) && (c .expired || interrupting (c .
 abbrev pub identity : List ℕ
 identity = 0x00 ∷ 0x34 ∷ 0x5D ∷ 0x80 ∷ []
 
--- what a read shows; 27h and an undefined register read 00h
+-- what a read of one of the chip's own registers shows; 27h reads 00h
+abbrev pub ownShown : Chip → Own → ℕ
+ownShown c Configuration = c .configuration
+ownShown c Status = statusByte c
+ownShown c StallStatus = stallByte c
+ownShown c SpinStatus = spinByte c
+ownShown c DriveFailStatus = 0x00
+ownShown c Enable = c .enable
+ownShown c (Output i) = getD (c .outputs) i 0
+ownShown c Lock = c .lock
+ownShown c (Identity i) = getD identity i 0
+
+-- what a read shows; an undefined register reads 00h
 abbrev pub shownOf : Chip → Register → ℕ
-shownOf c Configuration = c .configuration
-shownOf c Status = statusByte c
-shownOf c StallStatus = stallByte c
-shownOf c SpinStatus = spinByte c
-shownOf c DriveFailStatus = 0x00
-shownOf c Enable = c .enable
-shownOf c (Output i) = getD (c .outputs) i 0
 shownOf c (OfFan i offset) = shown (fanAt (c .fans) i) offset
-shownOf c Lock = c .lock
-shownOf c (Identity i) = getD identity i 0
+shownOf c (OfChip own) = ownShown c own
 shownOf c Undefined = 0x00
 
+-- the chip's own registers of which a read clears something: 24h to 26h
+abbrev pub clears : Own → Bool
+clears Configuration = false
+clears Status = true
+clears StallStatus = true
+clears SpinStatus = true
+clears DriveFailStatus = false
+clears Enable = false
+clears (Output i) = false
+clears Lock = false
+clears (Identity i) = false
+
 -- reading 25h or 26h clears the bit there of each fan that is not stuck; reading 24h clears WATCH
+abbrev pub ownCleared : Own → Chip → Chip
+ownCleared Configuration c = c
+ownCleared Status c = withExpired false c
+ownCleared StallStatus c = withFans (map (bitRead Stall) (c .fans)) c
+ownCleared SpinStatus c = withFans (map (bitRead Spin) (c .fans)) c
+ownCleared DriveFailStatus c = c
+ownCleared Enable c = c
+ownCleared (Output i) c = c
+ownCleared Lock c = c
+ownCleared (Identity i) c = c
+
+-- no other read clears anything
 abbrev pub clearedOf : Register → Chip → Chip
-clearedOf Configuration c = c
-clearedOf Status c = withExpired false c
-clearedOf StallStatus c = withFans (map (bitRead Stall) (c .fans)) c
-clearedOf SpinStatus c = withFans (map (bitRead Spin) (c .fans)) c
-clearedOf DriveFailStatus c = c
-clearedOf Enable c = c
-clearedOf (Output i) c = c
 clearedOf (OfFan i offset) c = c
-clearedOf Lock c = c
-clearedOf (Identity i) c = c
+clearedOf (OfChip own) c = ownCleared own c
 clearedOf Undefined c = c
 
 -- bit 0 of EFh is 1
 abbrev pub isLocked : Chip → Bool
 isLocked c = bit 0 (c .lock)
 
--- what the lock guards: EFh, 20h, and the fans' locked registers
+-- what the lock guards of the chip's own registers: 20h and EFh
+abbrev pub ownGuarded : Own → Bool
+ownGuarded Configuration = true
+ownGuarded Status = false
+ownGuarded StallStatus = false
+ownGuarded SpinStatus = false
+ownGuarded DriveFailStatus = false
+ownGuarded Enable = false
+ownGuarded (Output i) = false
+ownGuarded Lock = true
+ownGuarded (Identity i) = false
+
+-- and of all: besides those the fans' locked registers
 abbrev pub guarded : Register → Bool
-guarded Configuration = true
-guarded Status = false
-guarded StallStatus = false
-guarded SpinStatus = false
-guarded DriveFailStatus = false
-guarded Enable = false
-guarded (Output i) = false
 guarded (OfFan i offset) = locked offset
-guarded Lock = true
-guarded (Identity i) = false
+guarded (OfChip own) = ownGuarded own
 guarded Undefined = false
 
--- where a write can store: not where a register is undefined or read only, 24h to 27h and the identity bytes too
-abbrev pub writableIn : Chip → Register → Bool
-writableIn c Configuration = true
-writableIn c Status = false
-writableIn c StallStatus = false
-writableIn c SpinStatus = false
-writableIn c DriveFailStatus = false
-writableIn c Enable = true
-writableIn c (Output i) = true
-writableIn c (OfFan i offset) = stores (fanAt (c .fans) i) offset
-writableIn c Lock = true
-writableIn c (Identity i) = false
-writableIn c Undefined = false
+-- the chip's own registers that can be written: 24h to 27h and the identity bytes are read only
+abbrev pub writable : Own → Bool
+writable Configuration = true
+writable Status = false
+writable StallStatus = false
+writable SpinStatus = false
+writable DriveFailStatus = false
+writable Enable = true
+writable (Output i) = true
+writable Lock = true
+writable (Identity i) = false
 
--- whether a write is stored
+-- whether a write to one of them is stored
+abbrev pub ownStores : Chip → Own → Bool
+ownStores c own = writable own && not (isLocked c && ownGuarded own)
+
+-- whether a write is stored; an undefined register stores nothing
 abbrev pub storesIn : Chip → Register → Bool
-storesIn c register = writableIn c register && not (isLocked c && guarded register)
-
--- whether a write to a fan's register is stored, under the byte of EFh
-abbrev pub fanStores : ℕ → ℕ → Fan → Bool
-fanStores lock offset f = stores f offset && not (bit 0 lock && locked offset)
+storesIn c (OfFan i offset) = takes (isLocked c) (fanAt (c .fans) i) offset
+storesIn c (OfChip own) = ownStores c own
+storesIn c Undefined = false
 
 -- a stored write to a fan's register
 unfoldable pub fanStored : ℕ → ℕ → ℕ → Chip → Chip
 fanStored i offset byte c = programmedBy offset byte (onFan i (written offset byte) c)
 
+-- a stored write to one of the chip's own
+abbrev pub ownStored : Own → ℕ → Chip → Chip
+ownStored Configuration byte c = configuredBy byte (withConfiguration byte c)
+ownStored Status byte c = c
+ownStored StallStatus byte c = c
+ownStored SpinStatus byte c = c
+ownStored DriveFailStatus byte c = c
+ownStored Enable byte c = withEnable byte c
+ownStored (Output i) byte c = withOutputs (set (c .outputs) i byte) c
+ownStored Lock byte c = withLock byte c
+ownStored (Identity i) byte c = c
+
+-- a write to one of them; one that is not stored changes nothing
+abbrev pub ownWritten : Own → ℕ → Chip → Chip
+ownWritten own byte c = cond (ownStores c own) (ownStored own byte c) c
+
 -- what a stored write does
 abbrev pub storedOf : Register → ℕ → Chip → Chip
-storedOf Configuration byte c = configuredBy byte (withConfiguration byte c)
-storedOf Status byte c = c
-storedOf StallStatus byte c = c
-storedOf SpinStatus byte c = c
-storedOf DriveFailStatus byte c = c
-storedOf Enable byte c = withEnable byte c
-storedOf (Output i) byte c = withOutputs (set (c .outputs) i byte) c
 storedOf (OfFan i offset) byte c = fanStored i offset byte c
-storedOf Lock byte c = withLock byte c
-storedOf (Identity i) byte c = c
+storedOf (OfChip own) byte c = ownStored own byte c
 storedOf Undefined byte c = c
 
 -- what a read of an address shows

@@ -10,12 +10,9 @@ mod watching;
 use emc2305_fan::Bit;
 use emc2305_fan::Fan;
 use emc2305_watchdog::Watch;
-pub use map::is_cleared;
-pub use map::is_of_fan;
-pub use map::is_outside;
-pub use map::is_own_writable;
 pub use map::register_of;
-pub use registers::fan_stores;
+pub use registers::is_cleared;
+pub use registers::is_writable;
 ghost use mathlib.Core.Path.{_≡_};
 ghost use mathlib.Core.Bool.{true};
 ghost use Prim.Native.Nat.{_<_};
@@ -49,6 +46,14 @@ pub struct Chip {
 
 // What stands at a register address.
 pub enum Register {
+    // The fan, from 0, and the offset.
+    OfFan(usize, usize),
+    OfChip(Own),
+    Undefined,
+}
+
+// The registers that are no fan's.
+pub enum Own {
     Configuration,
     Status,
     StallStatus,
@@ -57,12 +62,9 @@ pub enum Register {
     Enable,
     // By its place from 2Ah on.
     Output(usize),
-    // The fan, from 0, and the offset.
-    OfFan(usize, usize),
     Lock,
     // By its place from FCh on.
     Identity(usize),
-    Undefined,
 }
 
 // What happens to all five fans alike.

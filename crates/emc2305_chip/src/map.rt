@@ -1,68 +1,60 @@
-// The register map: what stands at an address.
+// The register map: what stands at an address. Registers lie in rows of 16, so that address / 16 and address % 16 decide.
+use crate::Own;
 use crate::Register;
 ghost use mathlib.Core.Path.{_≡_};
-ghost use Rattle.emc2305_chip.specs.Map.{within, ownWritable, outside, registerOf};
+ghost use Prim.Native.Nat.{_+_, _<_};
+ghost use Rattle.emc2305_chip.specs.Map.{registerOf};
 
 // What stands at a register address.
 pub fn register_of(address: u8) -> Register
     ensures { λ r. ⌜ r ≡ registerOf address ⌝ }
 {
-    let at = address as usize;
-    match at {
-        0x20 => Register::Configuration,
-        0x24 => Register::Status,
-        0x25 => Register::StallStatus,
-        0x26 => Register::SpinStatus,
-        0x27 => Register::DriveFailStatus,
-        0x29 => Register::Enable,
-        0x2A..=0x2D => Register::Output(at - 0x2A),
-        0x30..=0x7F => Register::OfFan((at - 0x30) / 0x10, at % 0x10),
-        0xEF => Register::Lock,
-        0xFC..=0xFF => Register::Identity(at - 0xFC),
+    let row = address as usize / 0x10;
+    let offset = address as usize % 0x10;
+    match row {
+        0x2 => in_row_2(offset),
+        0x3..=0x7 => Register::OfFan(row - 0x3, offset),
+        0xE => in_row_e(offset),
+        0xF => in_row_f(offset),
         _ => Register::Undefined,
     }
 }
 
-// Whether the address is a fan's.
-pub fn is_of_fan(address: u8) -> bool
-    ensures { λ r. ⌜ r ≡ within 0x30 0x7F address ⌝ }
+// 20h to 2Fh: configuration, status, interrupt enable, outputs.
+fn in_row_2(offset: usize) -> Register
+    requires { ⌜ offset < 16 ⌝ }
+    ensures { λ r. ⌜ r ≡ registerOf (0x20 + offset) ⌝ }
 {
-    match address {
-        0x30..=0x7F => true,
-        _ => false,
+    match offset {
+        0x0 => Register::OfChip(Own::Configuration),
+        0x4 => Register::OfChip(Own::Status),
+        0x5 => Register::OfChip(Own::StallStatus),
+        0x6 => Register::OfChip(Own::SpinStatus),
+        0x7 => Register::OfChip(Own::DriveFailStatus),
+        0x9 => Register::OfChip(Own::Enable),
+        0xA..=0xD => Register::OfChip(Own::Output(offset - 0xA)),
+        _ => Register::Undefined,
     }
 }
 
-// Whether a register that can be written, and is no fan's, stands at the address; the lock aside.
-pub fn is_own_writable(address: u8) -> bool
-    ensures { λ r. ⌜ r ≡ ownWritable address ⌝ }
+// E0h to EFh: the lock.
+fn in_row_e(offset: usize) -> Register
+    requires { ⌜ offset < 16 ⌝ }
+    ensures { λ r. ⌜ r ≡ registerOf (0xE0 + offset) ⌝ }
 {
-    match address {
-        0x20 => true,
-        0x29..=0x2D => true,
-        0xEF => true,
-        _ => false,
+    match offset {
+        0xF => Register::OfChip(Own::Lock),
+        _ => Register::Undefined,
     }
 }
 
-// Whether a read of the address can clear something: 24h to 26h.
-pub fn is_cleared(address: u8) -> bool
-    ensures { λ r. ⌜ r ≡ within 0x24 0x26 address ⌝ }
+// F0h to FFh: the identity bytes.
+fn in_row_f(offset: usize) -> Register
+    requires { ⌜ offset < 16 ⌝ }
+    ensures { λ r. ⌜ r ≡ registerOf (0xF0 + offset) ⌝ }
 {
-    match address {
-        0x24..=0x26 => true,
-        _ => false,
-    }
-}
-
-// Whether the address lies outside the stretches that have registers.
-pub fn is_outside(address: u8) -> bool
-    ensures { λ r. ⌜ r ≡ outside address ⌝ }
-{
-    match address {
-        0x20..=0x7F => false,
-        0xEF => false,
-        0xFC..=0xFF => false,
-        _ => true,
+    match offset {
+        0xC..=0xF => Register::OfChip(Own::Identity(offset - 0xC)),
+        _ => Register::Undefined,
     }
 }

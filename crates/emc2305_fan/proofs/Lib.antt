@@ -1,5 +1,6 @@
 pub mod Offsets
 pub mod Steps
+pub mod Taken
 pub mod TableRules
 pub mod Ramps
 pub mod Ticks

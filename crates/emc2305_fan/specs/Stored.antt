@@ -1,11 +1,12 @@
 -- A write to one of the fan's registers.
-use Prim.Native.Nat.{ℕ}
-use mathlib.Core.Bool.{Bool, cond, not, _&&_, _||_}
+use Prim.Native.Nat.{ℕ, _+_}
+use mathlib.Core.Bool.{Bool, false, cond, not, _&&_, _||_}
+use mathlib.Core.List.{List, [], _∷_}
 use lib.Dec.{ltb, eqb}
 use lib.ListN.{set}
 use Rattle.emc2305_fan.specs.declared.Fan.{Fan}
 use Rattle.emc2305_fan.specs.State.{withRegisters, withDrive, withWish, withClock}
-use Rattle.emc2305_fan.specs.Registers.{closedLoop, stores}
+use Rattle.emc2305_fan.specs.Registers.{bit, closedLoop, locked, stores}
 use Rattle.emc2305_fan.specs.Drive.{driverOff, goal, underRamp}
 use Rattle.emc2305_fan.specs.Spin.{started, ended}
 
@@ -44,3 +45,25 @@ settled f = cond (f .spin .running) (spinHeld f) (driveSet f)
 -- a write: the byte, then wish, clock, spin-up and drive; one that is not stored changes nothing
 unfoldable pub written : ℕ → ℕ → Fan → Fan
 written offset byte f = cond (stores f offset) (settled (clockSet offset (wishTaken (closedLoop f) (put offset byte f)))) f
+
+-- a write that programs the fan: one to Setting, or one that sets Configuration 1 bit 7
+abbrev pub programs : ℕ → ℕ → Bool
+programs offset byte = eqb offset 0x0 || (eqb offset 0x2 && bit 7 byte)
+
+-- whether a write to the offset is stored, with the lock on or off
+abbrev pub takes : Bool → Fan → ℕ → Bool
+takes lock f offset = stores f offset && not (lock && locked offset)
+
+-- a data byte for the offset
+abbrev pub byteTaken : Bool → ℕ → ℕ → Fan → Fan
+byteTaken lock offset byte f = cond (takes lock f offset) (written offset byte f) f
+
+-- data bytes in turn, from an offset on
+unfoldable pub bytesTaken : Bool → ℕ → List ℕ → Fan → Fan
+bytesTaken lock offset [] f = f
+bytesTaken lock offset (byte ∷ rest) f = bytesTaken lock (offset + 1) rest (byteTaken lock offset byte f)
+
+-- whether one of them is stored and programs the fan
+unfoldable pub bytesProgram : Bool → ℕ → List ℕ → Fan → Bool
+bytesProgram lock offset [] f = false
+bytesProgram lock offset (byte ∷ rest) f = (takes lock f offset && programs offset byte) || bytesProgram lock (offset + 1) rest (byteTaken lock offset byte f)

@@ -11,9 +11,9 @@ pub use drive::ramp_update;
 pub use registers::is_locked;
 
 // The offsets of a fan's registers that a rule names.
-pub const SETTING: usize = 0x0;
+const SETTING: usize = 0x0;
 
-pub const CONFIGURATION_1: usize = 0x2;
+const CONFIGURATION_1: usize = 0x2;
 
 const CONFIGURATION_2: usize = 0x3;
 
@@ -30,6 +30,9 @@ const TARGET_HIGH: usize = 0xD;
 const READING_HIGH: usize = 0xE;
 
 const READING_LOW: usize = 0xF;
+
+// The last of the 16 offsets.
+const LAST: usize = 0xF;
 
 // Weights of the bits that a rule names: Configuration 1 bit 7, Configuration 2 bit 6, Spin Up bit 5.
 const LOOP: u8 = 0x80;
@@ -71,4 +74,13 @@ pub struct Fan {
     pub stalled: bool,
     // The fan's bit of 26h.
     pub failed: bool,
+}
+
+// What data bytes leave of a fan.
+pub struct Written {
+    pub fan: Fan,
+    // Whether a byte programmed it, which ends the power-up watch.
+    pub programmed: bool,
+    // How many bytes were for this fan, stored or not: as many as it has registers from the first offset on.
+    pub count: usize,
 }

@@ -1,57 +1,91 @@
-// A write to one of the fan's registers, and what follows from it.
+// Data bytes written to the fan's registers, and what follows from each.
 use crate::CONFIGURATION_1;
 use crate::CONFIGURATION_2;
 use crate::Fan;
+use crate::LAST;
+use crate::LOOP;
+use crate::SETTING;
+use crate::Written;
+use crate::registers;
 ghost use mathlib.Core.Path.{_≡_};
-ghost use Prim.Native.Nat.{_<_};
-ghost use Rattle.emc2305_fan.specs.Stored.{put, wishTaken, clearsClock, clockSet, spinHeld, spinStarts, driveSet, settled, written};
+ghost use mathlib.Core.Bool.{not, _&&_};
+ghost use Prim.Native.Nat.{min, _-_};
+ghost use lib.ListN.{length};
+ghost use Rattle.emc2305_fan.specs.Registers.{closedLoop};
+ghost use Rattle.emc2305_fan.specs.Stored.{clearsClock, spinStarts, takes, programs, bytesTaken, bytesProgram};
 
 impl Fan {
-    // A write of a byte to the offset, where no lock forbids it. One that is not stored changes nothing.
-    pub fn write(self, offset: usize, byte: u8) -> Fan
-        ensures { λ r. ⌜ r ≡ written offset byte self ⌝ }
+    // Data bytes in turn, from an offset on, with the lock on or off. One that is not stored changes nothing.
+    // The fan is changed where it lies: handed from function to function it would be copied for each byte.
+    pub fn write(self, first: usize, bytes: &[u8], locked: bool) -> Written
+        ensures { λ r. ⌜ r .fan ≡ bytesTaken locked first (now (bytes .entry)) self ⌝ }
+        ensures { λ r. ⌜ r .programmed ≡ bytesProgram locked first (now (bytes .entry)) self ⌝ }
+        ensures { λ r. ⌜ r .count ≡ min (length (now (bytes .entry))) (16 - first) ⌝ }
     {
-        if self.stores(offset) {
-            let was_closed = self.closed_loop();
-            self.put(offset, byte)
-                .wish_taken(was_closed)
-                .clock_set(offset)
-                .settled()
-        } else {
-            self
+        let mut fan = self;
+        let mut programmed = false;
+        let n = bytes.len();
+        for i in 0..n {
+            let offset = first + i;
+            if LAST < offset {
+                return Written {
+                    fan,
+                    programmed,
+                    count: i,
+                };
+            }
+            if !fan.takes(offset, locked) {
+                continue;
+            }
+            let byte = bytes[i];
+            programmed = programmed | programs(offset, byte);
+            let was_closed = fan.closed_loop();
+            fan.registers[offset] = byte;
+            if fan.turned_on(was_closed) {
+                fan.wish = fan.drive;
+            }
+            if fan.clears_clock(offset) {
+                fan.clock = 0;
+            }
+            if fan.spin.running {
+                if fan.goal() == 0 {
+                    fan = fan.end(0);
+                }
+            } else if fan.spin_starts() {
+                fan = fan.start();
+            } else if !fan.under_ramp() {
+                let goal = fan.goal();
+                fan.drive = goal;
+            }
+        }
+        Written {
+            fan,
+            programmed,
+            count: n,
         }
     }
 
-    // The byte is stored whole.
-    fn put(mut self, offset: usize, byte: u8) -> Fan
-        requires { ⌜ offset < 16 ⌝ }
-        ensures { λ r. ⌜ r ≡ put offset byte self ⌝ }
+    // Whether a write to the offset is stored, with the lock on or off.
+    fn takes(self, offset: usize, locked: bool) -> bool
+        ensures { λ r. ⌜ r ≡ takes locked self offset ⌝ }
     {
-        self.registers[offset] = byte;
-        self
+        if locked {
+            if registers::is_locked(offset) {
+                return false;
+            }
+        }
+        self.stores(offset)
     }
 
-    // Turning the loop on makes the wish the present drive.
-    fn wish_taken(mut self, was_closed: bool) -> Fan
-        ensures { λ r. ⌜ r ≡ wishTaken «was_closed» self ⌝ }
+    // Whether the loop is on and was not.
+    fn turned_on(self, was_closed: bool) -> bool
+        ensures { λ r. ⌜ r ≡ (not «was_closed» && closedLoop self) ⌝ }
     {
         if was_closed {
-            return self;
+            false
+        } else {
+            self.closed_loop()
         }
-        if self.closed_loop() {
-            self.wish = self.drive;
-        }
-        self
-    }
-
-    // The update clock at 0 where the write clears it.
-    fn clock_set(mut self, offset: usize) -> Fan
-        ensures { λ r. ⌜ r ≡ clockSet offset self ⌝ }
-    {
-        if self.clears_clock(offset) {
-            self.clock = 0;
-        }
-        self
     }
 
     // Whether a stored write to the offset sets the update clock to 0.
@@ -65,39 +99,6 @@ impl Fan {
         }
     }
 
-    // Spin-up and drive after a stored write.
-    fn settled(self) -> Fan
-        ensures { λ r. ⌜ r ≡ settled self ⌝ }
-    {
-        if self.spin.running {
-            self.spin_held()
-        } else {
-            self.drive_set()
-        }
-    }
-
-    // In spin-up: goal 0 ends it with drive 0.
-    fn spin_held(self) -> Fan
-        ensures { λ r. ⌜ r ≡ spinHeld self ⌝ }
-    {
-        if self.goal() == 0 { self.end(0) } else { self }
-    }
-
-    // Out of spin-up: it starts one, or without ramp control drive equals goal at once.
-    fn drive_set(mut self) -> Fan
-        ensures { λ r. ⌜ r ≡ driveSet self ⌝ }
-    {
-        if self.spin_starts() {
-            self.start()
-        } else if self.under_ramp() {
-            self
-        } else {
-            let goal = self.goal();
-            self.drive = goal;
-            self
-        }
-    }
-
     // Drive 0 before the write, goal above 0 after it.
     fn spin_starts(self) -> bool
         ensures { λ r. ⌜ r ≡ spinStarts self ⌝ }
@@ -107,5 +108,16 @@ impl Fan {
         } else {
             false
         }
+    }
+}
+
+// Whether a stored write programs the fan: one to Setting, or one that sets Configuration 1 bit 7.
+fn programs(offset: usize, byte: u8) -> bool
+    ensures { λ r. ⌜ r ≡ programs offset byte ⌝ }
+{
+    match offset {
+        SETTING => true,
+        CONFIGURATION_1 => byte / LOOP % 2 == 1,
+        _ => false,
     }
 }

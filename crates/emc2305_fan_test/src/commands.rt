@@ -4,6 +4,7 @@ use crate::wide;
 use emc2305_fan::Bit;
 use emc2305_fan::Fan;
 use emc2305_fan::SpinUp;
+use emc2305_fan::Written;
 
 // The largest usize.
 const LARGEST: usize = 18446744073709551615;
@@ -14,6 +15,7 @@ pub fn act(fan: Fan, which: u8, data: &[u8]) -> Fan {
         b'r' => power_on(),
         b'l' => load(data),
         b'w' => write(fan, offset(field(data, 0)), field(data, 1)),
+        b'b' => block(fan, data),
         b't' => ticks(fan, field(data, 0)),
         b'e' => each_tick(fan, field(data, 0)),
         b's' => sample(
@@ -99,7 +101,8 @@ fn first_sixteen(data: &[u8]) -> [u8; 16] {
 
 // A write, and whether the offset stores.
 fn write(fan: Fan, offset: usize, byte: u8) -> Fan {
-    let next = fan.write(offset, byte);
+    let one = [byte];
+    let next = fan.write(offset, &one[..], false).fan;
     show::text(b"write");
     show::wide_number(offset as u64);
     show::hex(byte);
@@ -110,6 +113,31 @@ fn write(fan: Fan, offset: usize, byte: u8) -> Fan {
     }
     show::state(next);
     next
+}
+
+// Data bytes in turn: the first offset, whether the lock is on, then the bytes.
+fn block(fan: Fan, data: &[u8]) -> Fan {
+    let first = offset(field(data, 0));
+    let locked = field(data, 1) != 0;
+    let written = past_two(fan, first, data, locked);
+    show::text(b"block");
+    show::wide_number(first as u64);
+    show::text(b" takes");
+    show::wide_number(written.count as u64);
+    show::word_if(locked, b" locked");
+    show::word_if(written.programmed, b" programmed");
+    let next = written.fan;
+    show::state(next);
+    next
+}
+
+// The bytes from the third on, written.
+fn past_two(fan: Fan, first: usize, data: &[u8], locked: bool) -> Written {
+    if data.len() < 2 {
+        fan.write(first, data, locked)
+    } else {
+        fan.write(first, &data[2..], locked)
+    }
 }
 
 // Some ticks, and the state after them.

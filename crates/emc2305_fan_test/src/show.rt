@@ -43,7 +43,7 @@ fn hex_digit(n: u8) -> u8 {
     }
 }
 
-fn word_if(holds: bool, word: &[u8]) {
+pub fn word_if(holds: bool, word: &[u8]) {
     if holds {
         text(word);
     }

@@ -9,18 +9,20 @@ use Rattle.laws.specs.Repeat.{repeated}
 use Rattle.laws.proofs.Tests.{by-test}
 use Rattle.eventlog.specs.declared.Event.{Event}
 use Rattle.emc2305_fan.specs.Registers.{bit}
+use Rattle.emc2305_fan.specs.Stored.{programs}
 use Rattle.emc2305_watchdog.specs.declared.Watch.{Watch}
 use Rattle.emc2305_watchdog.specs.declared.Watch.the-variants.{Off, PowerUp, Continuous}
 use Rattle.emc2305_watchdog.specs.Watch.{inPowerUp, fires, programmed, configured}
 use Rattle.emc2305_chip.specs.declared.Chip.{Chip}
 use Rattle.emc2305_chip.specs.declared.Register.{Register}
-use Rattle.emc2305_chip.specs.declared.Register.the-variants.{Configuration, Enable, Output, OfFan, Lock}
+use Rattle.emc2305_chip.specs.declared.Own.{Own}
+use Rattle.emc2305_chip.specs.declared.Own.the-variants.{Configuration, Status, StallStatus, SpinStatus, DriveFailStatus, Enable, Output, Lock, Identity}
+use Rattle.emc2305_chip.specs.declared.Register.the-variants.{OfFan, OfChip, Undefined}
 use Rattle.emc2305_chip.specs.State.{withFans, withPointer}
 use Rattle.emc2305_chip.specs.Map.{registerOf}
-use Rattle.emc2305_chip.specs.Watching.{programs, fedChip}
-use Rattle.emc2305_chip.specs.Registers.{clearedOf, clearedAt, storesIn, storedOf, storesAt, writtenAt, fanStored}
+use Rattle.emc2305_chip.specs.Watching.{fedChip}
+use Rattle.emc2305_chip.specs.Registers.{ownCleared, clearedOf, clearedAt, ownStores, storesIn, ownStored, storedOf, storesAt, writtenAt, fanStored}
 use Rattle.emc2305_chip.specs.Ticks.{allFired, allTicked, chipTicked}
-use Rattle.emc2305_chip.proofs.Maps.{by-register}
 use Rattle.emc2305_chip.proofs.Moves.{stored-keeps, written-keeps}
 use Rattle.emc2305.specs.Transfers.{passed, byteWritten, inTurn, sent, byteRead}
 use Rattle.emc2305.specs.Step.{taken}
@@ -61,13 +63,25 @@ tick-bare c = by-test (fires (c .watch)) (λ t. rw t) (λ t. rw t)
 passed-bare : (n : ℕ) (c : Chip) → bare (passed n c) ≡ passed n (bare c)
 passed-bare n c = refl
 
+own-cleared-bare : (own : Own) (c : Chip) → bare (ownCleared own c) ≡ ownCleared own (bare c)
+own-cleared-bare Configuration c = refl
+own-cleared-bare Status c = refl
+own-cleared-bare StallStatus c = refl
+own-cleared-bare SpinStatus c = refl
+own-cleared-bare DriveFailStatus c = refl
+own-cleared-bare Enable c = refl
+own-cleared-bare (Output i) c = refl
+own-cleared-bare Lock c = refl
+own-cleared-bare (Identity i) c = refl
+
+cleared-bare : (register : Register) (c : Chip) → bare (clearedOf register c) ≡ clearedOf register (bare c)
+cleared-bare (OfFan i offset) c = refl
+cleared-bare (OfChip own) c = own-cleared-bare own c
+cleared-bare Undefined c = refl
+
 read-bare : (n : ℕ) (c : Chip) → bare (byteRead n c) ≡ byteRead n (bare c)
 unfolding byteRead clearedAt
-read-bare n c =
-    let P : Register → Type 0 = λ r. bare (clearedOf r c) ≡ clearedOf r (bare c) in
-    passed-bare n (clearedAt (c .pointer) c)
-    ∙ ap (passed n)
-    (by-register P (c .pointer) (λ _. refl) refl refl refl refl refl (λ i h. refl) (λ i offset h. refl) refl (λ i h. refl) refl)
+read-bare n c = passed-bare n (clearedAt (c .pointer) c) ∙ ap (passed n) (cleared-bare (registerOf (c .pointer)) c)
 
 pub reads-bare : (n k : ℕ) (c : Chip) → bare (repeated k (byteRead n) c) ≡ repeated k (byteRead n) (bare c)
 reads-bare n k c = repeated-bare k (byteRead n) c (read-bare n)
@@ -85,16 +99,28 @@ module _ (byte : ℕ) (c : Chip) (up : inPowerUp (c .watch) ≡ false) where
   stored-bare : (r : Register) → bare (cond (storesIn c r) (storedOf r byte c) c) ≡ cond (storesIn c r) (bare (storedOf r byte c)) (bare c)
   stored-bare r = either-way (storesIn c r) (storedOf r byte c) c
 
-  written-bare : (a : ℕ) → bare (writtenAt a byte c) ≡ writtenAt a byte (bare c)
-  unfolding writtenAt storesAt fanStored
-  written-bare a =
-      let P : Register → Type 0 =
-      λ r. bare (cond (storesIn c r) (storedOf r byte c) c) ≡ cond (storesIn (bare c) r) (storedOf r byte (bare c)) (bare c) in
-      by-register P a (λ _. stored-bare Configuration) refl refl refl refl (stored-bare Enable) (λ i h. stored-bare (Output i))
-      (λ i offset h.
+  own-bare : (own : Own) → bare (cond (ownStores c own) (ownStored own byte c) c) ≡ cond (ownStores c own) (ownStored own byte (bare c)) (bare c)
+  own-bare Configuration = stored-bare (OfChip Configuration)
+  own-bare Status = refl
+  own-bare StallStatus = refl
+  own-bare SpinStatus = refl
+  own-bare DriveFailStatus = refl
+  own-bare Enable = stored-bare (OfChip Enable)
+  own-bare (Output i) = stored-bare (OfChip (Output i))
+  own-bare Lock = stored-bare (OfChip Lock)
+  own-bare (Identity i) = refl
+
+  register-bare : (r : Register) → bare (cond (storesIn c r) (storedOf r byte c) c) ≡ cond (storesIn (bare c) r) (storedOf r byte (bare c)) (bare c)
+  unfolding fanStored
+  register-bare (OfFan i offset) =
       stored-bare (OfFan i offset) ∙ same-way (storesIn c (OfFan i offset)) (fan-bare i offset)
-      ∙ sym (same-way (storesIn (bare c) (OfFan i offset)) (fan-bare i offset)))
-      (stored-bare Lock) (λ i h. refl) refl
+      ∙ sym (same-way (storesIn (bare c) (OfFan i offset)) (fan-bare i offset))
+  register-bare (OfChip own) = own-bare own
+  register-bare Undefined = refl
+
+  written-bare : (a : ℕ) → bare (writtenAt a byte c) ≡ writtenAt a byte (bare c)
+  unfolding writtenAt storesAt
+  written-bare a = register-bare (registerOf a)
 
   pub byte-bare : (n : ℕ) → bare (byteWritten n byte c) ≡ byteWritten n byte (bare c)
   unfolding byteWritten

@@ -15,11 +15,11 @@ use Rattle.emc2305_watchdog.specs.declared.Watch.the-variants.{Off}
 use Rattle.emc2305_watchdog.specs.Watch.{isOff, inPowerUp}
 use Rattle.emc2305_chip.specs.declared.Chip.{Chip}
 use Rattle.emc2305_chip.specs.declared.Register.{Register}
+use Rattle.emc2305_chip.specs.declared.Register.the-variants.{OfFan, OfChip, Undefined}
 use Rattle.emc2305_chip.specs.State.{withPointer}
 use Rattle.emc2305_chip.specs.Map.{registerOf, isOfFan}
 use Rattle.emc2305_chip.specs.Watching.{fedChip}
 use Rattle.emc2305_chip.specs.Registers.{storesIn, storesAt}
-use Rattle.emc2305_chip.proofs.Maps.{by-register}
 use Rattle.emc2305.specs.Transfers.{byteWritten, byteRead}
 use Rattle.emc2305.specs.Step.{stepNumber, taken}
 use Rattle.emc2305.proofs.Effects.{by-effect}
@@ -41,13 +41,16 @@ module _ (i : ℕ) where
   abbrev Alike : Chip → Chip → Type 0
   Alike c d = (bare c ≡ bare d) × (fanOf i c ≡ fanOf i d) × (i < length (c .fans)) × (i < length (d .fans))
 
+  same-register : (c d : Chip) → Alike c d → (r : Register) → isOfFan i r && storesIn c r ≡ isOfFan i r && storesIn d r
+  same-register c d a (OfFan k offset) =
+      let lock : c .lock ≡ d .lock = ap (λ (b : Chip). b .lock) (a .0) in
+      by-test (eqb k i) (λ t. rw (t, eqb-true k i t, a .1, lock)) (λ t. rw t)
+  same-register c d a (OfChip own) = refl
+  same-register c d a Undefined = refl
+
   same-store : (p : ℕ) (c d : Chip) → Alike c d → isOfFan i (registerOf p) && storesAt c p ≡ isOfFan i (registerOf p) && storesAt d p
   unfolding storesAt
-  same-store p c d a =
-      let P : Register → Type 0 = λ r. isOfFan i r && storesIn c r ≡ isOfFan i r && storesIn d r in
-      let lock : c .lock ≡ d .lock = ap (λ (b : Chip). b .lock) (a .0) in
-      by-register P p (λ _. refl) refl refl refl refl refl (λ k h. refl)
-      (λ k offset h. by-test (eqb k i) (λ t. rw (t, eqb-true k i t, a .1, lock)) (λ t. rw t)) refl (λ k h. refl) refl
+  same-store p c d a = same-register c d a (registerOf p)
 
   same-byte : (byte : ℕ) (c d : Chip) → Alike c d → ofByte i byte c ≡ ofByte i byte d
   same-byte byte c d a =

@@ -3,6 +3,7 @@ use mathlib.Core.Path.{_≡_, refl, sym, ap, _∙_}
 use mathlib.Core.Bool.{Bool, true, false, cond, and-true, and-false}
 use mathlib.Core.List.{List, [], _∷_, _++_}
 use Prim.Native.Nat.{ℕ, zero, suc, _-_, _/_, _%_, _<_}
+use native.Mathlib.Omega.{arith}
 use lib.Dec.{eqb}
 use lib.ListN.{length, length-map}
 use borrow.Author.Tests.{eqb-true, eqb-false}
@@ -14,12 +15,16 @@ use Rattle.emc2305_fan.specs.declared.Bit.the-variants.{Stall, Spin}
 use Rattle.emc2305_fan.specs.declared.Fan.{Fan}
 use Rattle.emc2305_fan.specs.Status.{bitRead}
 use Rattle.emc2305_chip.specs.declared.Chip.{Chip}
+use Rattle.emc2305_chip.specs.declared.Own.{Own as OwnRegister}
+use Rattle.emc2305_chip.specs.declared.Own.the-variants.{Configuration, Status, StallStatus, SpinStatus, DriveFailStatus, Enable, Output, Lock, Identity}
 use Rattle.emc2305_chip.specs.declared.Register.{Register}
+use Rattle.emc2305_chip.specs.declared.Register.the-variants.{OfFan, OfChip, Undefined}
 use Rattle.emc2305_chip.specs.State.{withPointer}
-use Rattle.emc2305_chip.specs.Map.{within, registerOf, isOfFan}
+use Rattle.emc2305_chip.specs.Map.{registerOf, isOfFan}
 use Rattle.emc2305_chip.specs.Fans.{noFan}
-use Rattle.emc2305_chip.specs.Registers.{onFan, fanStored, storedOf, clearedOf, storesAt, writtenAt, clearedAt}
-use Rattle.emc2305_chip.proofs.Moves.{cleared-keeps}
+use Rattle.emc2305_chip.specs.Registers.{onFan, fanStored, storedOf, ownCleared, clearedOf, storesAt, writtenAt, clearedAt}
+use Rattle.emc2305_chip.proofs.Maps.{At, Placed, placed}
+use Rattle.emc2305_chip.proofs.Moves.{cleared-keeps, own-stored-keeps}
 use Rattle.emc2305_chip.proofs.Promises.{one-fan}
 use Rattle.emc2305.specs.Transfers.{byteWritten, inTurn, sent, byteRead}
 use Rattle.emc2305.proofs.ReadKeeps.{passed-keeps}
@@ -45,10 +50,6 @@ reads-count n k c =
     passed-keeps count n (clearedAt (d .pointer) d) (λ p. refl)
     ∙ cleared-keeps count d refl (λ which. length-map (d .fans) _) (registerOf (d .pointer)))
 
-either : (P : Register → Type 0) (t : Bool) {x y : Register} → P x → P y → P (cond t x y)
-either P true p q = p
-either P false p q = q
-
 module _ (i : ℕ) where
   -- a move of fan k + 1 reaches fan i + 1 where they are the same
   pub one-own : (k : ℕ) (own : Own) (c : Chip) → i < length (c .fans)
@@ -59,22 +60,17 @@ module _ (i : ℕ) where
       (λ t. rw t (one-fan c k (moveBy own) .1 i (λ e. eqb-false k i t (sym e))))
 
   -- a stored write, whatever stands at the address
+  register-own : (a byte : ℕ) (c : Chip) → i < length (c .fans) → (r : Register) → Placed a r
+      → fanOf i (storedOf r byte c) ≡ played (cond (isOfFan i r) (store (a % 0x10) byte ∷ []) []) (fanOf i c)
+  unfolding fanStored played
+  register-own a byte c h (OfFan k o) p = let same : a % 0x10 ≡ o = omega (arith, p .1, p .2) in rw same (one-own k (store o byte) c h)
+  register-own a byte c h (OfChip own) p =
+      own-stored-keeps (fanOf i) (λ (r : Register). true) byte c (λ e. refl) refl (λ k. refl) (λ e. refl) own refl
+  register-own a byte c h Undefined p = refl
+
   stored-own : (a byte : ℕ) (c : Chip) → i < length (c .fans)
       → fanOf i (storedOf (registerOf a) byte c) ≡ played (cond (isOfFan i (registerOf a)) (store (a % 0x10) byte ∷ []) []) (fanOf i c)
-  unfolding registerOf fanStored played
-  stored-own a byte c h =
-      let P : Register → Type 0 =
-      λ r. fanOf i (storedOf r byte c) ≡ played (cond (isOfFan i r) (store (a % 0x10) byte ∷ []) []) (fanOf i c) in
-      either P (eqb a 0x20) refl
-      (either P (eqb a 0x24) refl
-      (either P (eqb a 0x25) refl
-      (either P (eqb a 0x26) refl
-      (either P (eqb a 0x27) refl
-      (either P (eqb a 0x29) refl
-      (either P (within 0x2A 0x2D a) refl
-      (either P (within 0x30 0x7F a) (one-own ((a - 0x30) / 0x10) (store (a % 0x10) byte) c h)
-      (either P (eqb a 0xEF) refl
-      (either P (within 0xFC 0xFF a) refl refl)))))))))
+  stored-own a byte c h = register-own a byte c h (registerOf a) (placed a)
 
   pub byte-own : (n byte : ℕ) (c : Chip) → i < length (c .fans) → fanOf i (byteWritten n byte c) ≡ played (ofByte i byte c) (fanOf i c)
   unfolding byteWritten writtenAt played
@@ -98,23 +94,31 @@ module _ (i : ℕ) where
   sent-own (pointer ∷ rest) c h = bytes-own (length rest) rest (withPointer pointer c) h
 
   -- a read, whatever stands at the address
+  own-unread : (a : ℕ) (c : Chip) → (a ≡ 0x25 → ⊥) → (a ≡ 0x26 → ⊥) → (own : OwnRegister) → At own a → fanOf i (ownCleared own c) ≡ fanOf i c
+  own-unread a c t u Configuration p = refl
+  own-unread a c t u Status p = refl
+  own-unread a c t u StallStatus p = absurd (t p)
+  own-unread a c t u SpinStatus p = absurd (u p)
+  own-unread a c t u DriveFailStatus p = refl
+  own-unread a c t u Enable p = refl
+  own-unread a c t u (Output k) p = refl
+  own-unread a c t u Lock p = refl
+  own-unread a c t u (Identity k) p = refl
+
+  unread : (a : ℕ) (c : Chip) → (a ≡ 0x25 → ⊥) → (a ≡ 0x26 → ⊥) → (r : Register) → Placed a r → fanOf i (clearedOf r c) ≡ fanOf i c
+  unread a c t u (OfFan k o) p = refl
+  unread a c t u (OfChip own) p = own-unread a c t u own p
+  unread a c t u Undefined p = refl
+
+  nothing-read : (a : ℕ) (c : Chip) → eqb a 0x25 ≡ false → eqb a 0x26 ≡ false → fanOf i (clearedAt a c) ≡ played (ofRead a) (fanOf i c)
+  unfolding clearedAt played
+  nothing-read a c t u = rw (t, u) (unread a c (eqb-false a 0x25 t) (eqb-false a 0x26 u) (registerOf a) (placed a))
+
   cleared-own : (a : ℕ) (c : Chip) → i < length (c .fans) → fanOf i (clearedAt a c) ≡ played (ofRead a) (fanOf i c)
   unfolding registerOf clearedAt played
   cleared-own a c h =
-      let P : Register → Type 0 = λ r. fanOf i (clearedOf r c) ≡ fanOf i c in
       by-test (eqb a 0x25) (λ t. rw (eqb-true a 0x25 t) (getD-map (bitRead Stall) (c .fans) i noFan h))
-      (λ t.
-      by-test (eqb a 0x26) (λ u. rw (eqb-true a 0x26 u) (getD-map (bitRead Spin) (c .fans) i noFan h))
-      (λ u.
-      rw (t, u)
-      (either P (eqb a 0x20) refl
-      (either P (eqb a 0x24) refl
-      (either P (eqb a 0x27) refl
-      (either P (eqb a 0x29) refl
-      (either P (within 0x2A 0x2D a) refl
-      (either P (within 0x30 0x7F a) refl
-      (either P (eqb a 0xEF) refl
-      (either P (within 0xFC 0xFF a) refl refl))))))))))
+      (λ t. by-test (eqb a 0x26) (λ u. rw (eqb-true a 0x26 u) (getD-map (bitRead Spin) (c .fans) i noFan h)) (nothing-read a c t))
 
   pub read-own : (n : ℕ) (c : Chip) → i < length (c .fans) → fanOf i (byteRead n c) ≡ played (ofRead (c .pointer)) (fanOf i c)
   unfolding byteRead

@@ -24,9 +24,8 @@ use Rattle.emc2305_chip.specs.Map.{registerOf}
 use Rattle.emc2305_chip.specs.Watching.{fedChip}
 use Rattle.emc2305_chip.specs.Registers.{shownAt}
 use Rattle.emc2305_chip.proofs.Statuses.{status-bits}
-use Rattle.emc2305.specs.Transfers.{byteRead, readOut}
+use Rattle.emc2305.specs.Transfers.{pointerAfter, byteRead, readOut}
 use Rattle.emc2305.specs.Step.{taken, replyTo}
-use Rattle.emc2305.specs.Promises.{pointerAfter}
 use Rattle.emc2305.proofs.Effects.{by-effect}
 use Rattle.emc2305.proofs.Pointers.{reads-pass, reply-at}
 use Rattle.walks.specs.Sequence.{Handed}

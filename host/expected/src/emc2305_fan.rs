@@ -1,6 +1,7 @@
 //! The cases of the program emc2305_fan_test: one fan, also in states that no log reaches.
 
 mod bench;
+mod blocks;
 mod drive;
 mod registers;
 mod spin_up;
@@ -29,6 +30,7 @@ pub fn script() -> Script {
          off (driver)",
     );
     registers::cases(&mut bench);
+    blocks::cases(&mut bench);
     drive::cases(&mut bench);
     spin_up::cases(&mut bench);
     tach::cases(&mut bench);

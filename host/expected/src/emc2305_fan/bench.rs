@@ -11,6 +11,18 @@ pub const EVERY_OFFSET: [usize; 22] = [
     0, 1, 2, 3, 4, 5, 6, 7, 8, 9, 10, 11, 12, 13, 14, 15, 16, 17, 127, 128, 240, 255,
 ];
 
+/// How many registers a fan has.
+const REGISTERS: usize = 16;
+
+/// The offset that a code of `EVERY_OFFSET` stands for.
+fn offset_of(code: usize) -> usize {
+    if code < 128 {
+        code
+    } else {
+        usize::MAX - (255 - code)
+    }
+}
+
 /// Registers that are not at their defaults.
 pub type Changes = &'static [(usize, u8)];
 pub const DIRECT: Changes = &[(SETTING, 128)];
@@ -178,7 +190,7 @@ impl Bench {
 
     /// A write where no lock forbids it, at an offset of `EVERY_OFFSET`.
     pub fn write(&mut self, code: usize, value: u8) {
-        let offset = if code < 128 { code } else { usize::MAX - (255 - code) };
+        let offset = offset_of(code);
         let stores = self.state.fan.stores(offset, false);
         if stores {
             self.state.fan.stored_write(offset, value);
@@ -188,6 +200,26 @@ impl Bench {
             b'w',
             &[byte(code), value],
             &format!("write {offset} {value:02X} {stored}"),
+        );
+    }
+
+    /// Data bytes in turn, from an offset of `EVERY_OFFSET` on, with the lock on or off. They end with the last register.
+    pub fn block(&mut self, code: usize, locked: bool, bytes: &[u8]) {
+        let first = offset_of(code);
+        let taken = REGISTERS.saturating_sub(first).min(bytes.len());
+        let mut programmed = false;
+        for (offset, &value) in (first..).zip(&bytes[..taken]) {
+            if self.state.fan.stores(offset, locked) {
+                self.state.fan.stored_write(offset, value);
+                programmed |= offset == SETTING || offset == CONFIGURATION_1 && value >= 0x80;
+            }
+        }
+        let lock = if locked { " locked" } else { "" };
+        let program = if programmed { " programmed" } else { "" };
+        self.shows(
+            b'b',
+            &[&[byte(code), locked.into()], bytes].concat(),
+            &format!("block {first} takes {taken}{lock}{program}"),
         );
     }
 
