@@ -226,28 +226,35 @@ impl Fan {
         }
     }
 
+    /// The registers from this offset up, as many as the row has bytes: all but two read as they are stored.
+    fn read_row(&self, offset: usize, row: &mut [u8]) {
+        row.copy_from_slice(&self.registers[offset..offset + row.len()]);
+        for special in [SETTING, UNDEFINED] {
+            if let Some(byte) = special.checked_sub(offset).and_then(|place| row.get_mut(place)) {
+                *byte = self.register(special);
+            }
+        }
+    }
+
     /// Registers and Drive: whether a write at this offset is stored. "Offset 4 is undefined", and so is any past F;
     /// "Offsets 3 and 5 to B are locked. E and F are read only"; "In closed loop a Setting write stores nothing."
     pub fn stores(&self, offset: usize, locked: bool) -> bool {
         match offset {
             SETTING => !self.closed_loop(),
+            DIVIDE | CONFIGURATION_1 | TARGET_LOW | TARGET_HIGH => true,
             CONFIGURATION_2 | GAIN..=FAIL_BAND_HIGH => !locked,
-            UNDEFINED | READING_HIGH | READING_LOW => false,
-            _ => offset < self.registers.len(),
+            _ => false,
         }
     }
 
     /// Drive and Spin-up: one stored write to a register of the fan: the byte, the wish at turning the loop on, the
     /// clock, then by the new goal exactly one of spin-up ended, spin-up running on, spin-up started, drive at the
     /// goal without ramp control, or nothing. The offset is one that stores.
-    #[inline] // `Chip::write_fan` is slower without
     pub fn stored_write(&mut self, offset: usize, byte: u8) {
-        let drive_before = self.drive;
-        let closed_before = self.closed_loop();
-        self.registers[offset] = byte;
-        if self.closed_loop() && !closed_before {
-            self.wish = drive_before;
+        if offset == CONFIGURATION_1 && byte & LOOP != 0 && !self.closed_loop() {
+            self.wish = self.drive;
         }
+        self.registers[offset] = byte;
         if matches!(offset, CONFIGURATION_1 | CONFIGURATION_2) || self.driver_off() {
             self.clock = 0;
         }
@@ -258,7 +265,7 @@ impl Fan {
                 self.drive = 0;
                 self.clock = 0;
             }
-        } else if drive_before == 0 && goal > 0 {
+        } else if self.drive == 0 && goal > 0 {
             self.start_spin_up();
         } else if !self.ramp_control() {
             self.drive = goal;
@@ -440,12 +447,31 @@ impl Chip {
         Ok(laid)
     }
 
-    /// Registers: data bytes read act in turn.
+    /// Registers: data bytes read act in turn, here row by row of sixteen registers.
     fn read_bytes(&mut self, reply: &mut [u8]) {
         let data_bytes = reply.len();
-        for byte in reply {
-            *byte = self.read_register(self.pointer);
-            self.move_pointer(data_bytes);
+        let mut register = self.pointer;
+        let mut rest = reply;
+        while !rest.is_empty() {
+            let (row, next) = rest.split_at_mut(left_in_row(register).min(rest.len()));
+            self.read_row(register, row);
+            register = register.wrapping_add(row.len() as u8);
+            rest = next;
+        }
+        self.move_pointer(data_bytes);
+    }
+
+    /// Registers: bytes read in turn from this register up, within its row: a fan's, one of the three that have others,
+    /// or one of undefined registers, which read 00h.
+    fn read_row(&mut self, register: u8, row: &mut [u8]) {
+        match register {
+            0x30..=0x7F => self.fans[fan_index(register)].read_row(offset(register), row),
+            0x20..=0x2F | 0xE0..=0xFF => {
+                for (register, byte) in (register..=0xFF).zip(row) {
+                    *byte = self.read_register(register);
+                }
+            }
+            _ => row.fill(0x00),
         }
     }
 
@@ -456,17 +482,36 @@ impl Chip {
             return;
         };
         self.pointer = pointer;
-        for &byte in data {
-            self.write_register(self.pointer, byte);
-            self.move_pointer(data.len());
+        let mut register = pointer;
+        let mut rest = data;
+        while !rest.is_empty() {
+            let (row, next) = rest.split_at(left_in_row(register).min(rest.len()));
+            self.write_row(register, row);
+            register = register.wrapping_add(row.len() as u8);
+            rest = next;
         }
+        self.move_pointer(data.len());
     }
 
     /// Registers: "With one data byte, written or read, the pointer stays at that register; with two or more it goes up
     /// by one after each, FFh to 00h."
     fn move_pointer(&mut self, data_bytes: usize) {
         if data_bytes > 1 {
-            self.pointer = self.pointer.wrapping_add(1);
+            self.pointer = self.pointer.wrapping_add(data_bytes as u8);
+        }
+    }
+
+    /// Registers: bytes written in turn from this register up, within its row: a fan's, one of the two that have other
+    /// writable ones, or one that stores nothing.
+    fn write_row(&mut self, register: u8, row: &[u8]) {
+        match register {
+            0x30..=0x7F => self.write_fan(fan_index(register), offset(register), row),
+            0x20..=0x2F | 0xE0..=0xEF => {
+                for (register, &byte) in (register..=0xFF).zip(row) {
+                    self.write_register(register, byte);
+                }
+            }
+            _ => {}
         }
     }
 
@@ -486,7 +531,6 @@ impl Chip {
             }
             0x29 => self.interrupt_enable,
             0x2A..=0x2D => self.pwm[usize::from(register - 0x2A)],
-            0x30..=0x7F => self.fans[fan_index(register)].register(offset(register)),
             0xEF => self.lock,
             0xFC..=0xFF => IDENTITY[usize::from(register - 0xFC)],
             _ => 0x00,
@@ -514,7 +558,6 @@ impl Chip {
             0x20 if !locked => self.configure(byte),
             0x29 => self.interrupt_enable = byte,
             0x2A..=0x2D => self.pwm[usize::from(register - 0x2A)] = byte,
-            0x30..=0x7F => self.write_fan(fan_index(register), offset(register), byte, locked),
             0xEF if !locked => self.lock = byte,
             _ => {}
         }
@@ -531,19 +574,26 @@ impl Chip {
         }
     }
 
-    /// Watchdog: "a stored Setting write or a stored write setting Configuration 1 bit 7, on any fan, ends" the
-    /// power-up watch.
-    fn write_fan(&mut self, index: usize, offset: usize, byte: u8, locked: bool) {
+    /// Registers: bytes written in turn to one fan's registers, from this offset up.
+    fn write_fan(&mut self, index: usize, offset: usize, row: &[u8]) {
+        let locked = self.lock & LOCK != 0;
         let fan = &mut self.fans[index];
-        if !fan.stores(offset, locked) {
-            return;
-        }
-        fan.stored_write(offset, byte);
-        let ends_power_up = offset == SETTING || (offset == CONFIGURATION_1 && byte & LOOP != 0);
-        if ends_power_up && matches!(self.watch, Watch::PowerUp { .. }) {
-            self.watch = Watch::Off;
+        for (offset, &byte) in (offset..).zip(row) {
+            if !fan.stores(offset, locked) {
+                continue;
+            }
+            fan.stored_write(offset, byte);
+            if matches!(self.watch, Watch::PowerUp { .. }) && ends_power_up(offset, byte) {
+                self.watch = Watch::Off;
+            }
         }
     }
+}
+
+/// Watchdog: "a stored Setting write or a stored write setting Configuration 1 bit 7, on any fan, ends" the power-up
+/// watch.
+fn ends_power_up(offset: usize, byte: u8) -> bool {
+    offset == SETTING || (offset == CONFIGURATION_1 && byte & LOOP != 0)
 }
 
 /// Registers: "Fan i has 30h + 10h x (i - 1) and up", for 30h to 7Fh; fan 1 is index 0.
@@ -554,4 +604,9 @@ fn fan_index(register: u8) -> usize {
 /// Registers: the offset within a fan's registers.
 fn offset(register: u8) -> usize {
     usize::from(register % 0x10)
+}
+
+/// How many registers there are from this one to the end of its row of sixteen.
+fn left_in_row(register: u8) -> usize {
+    0x10 - offset(register)
 }
