@@ -93,6 +93,14 @@ pub struct Fan {
     pub spin_up: Option<SpinUp>,
 }
 
+/// Step: what a fan's ticks under ramp control go by. They change no register, so that it stays over ticks in a row.
+#[derive(Clone, Copy)]
+struct Ramp {
+    period: u16,
+    goal: u8,
+    step: u8,
+}
+
 impl Fan {
     /// Registers: "Power-on sets every default [...]; [...] drive, wish and update clocks are 0, no spin-up."
     pub fn power_on() -> Fan {
@@ -145,13 +153,22 @@ impl Fan {
         PERIODS[usize::from(self.registers[CONFIGURATION_1] & 7)]
     }
 
+    /// The ramp as the registers have it; none without ramp control.
+    fn ramp(&self) -> Option<Ramp> {
+        self.ramp_control().then(|| Ramp {
+            period: self.period(),
+            goal: self.goal(),
+            step: self.step(),
+        })
+    }
+
     /// Step: "A fan's update clock counts up each tick under ramp control [...]; at the period it goes to 0 and drive
     /// moves".
-    fn ramp(&mut self) {
+    fn ramp_tick(&mut self, ramp: Ramp) {
         self.clock = self.clock.saturating_add(1);
-        if self.clock >= self.period() {
+        if self.clock >= ramp.period {
             self.clock = 0;
-            self.drive = moved(self.drive, self.goal(), self.step());
+            self.drive = moved(self.drive, ramp.goal, ramp.step);
         }
     }
 
@@ -175,18 +192,33 @@ impl Fan {
         failed
     }
 
+    /// Spin-up: one tick of it, if one runs; true when it failed in it.
+    #[inline(never)] // the ticks of ramps are slower otherwise
+    fn spin_up_tick(&mut self) -> bool {
+        let Some(spin_up) = &mut self.spin_up else {
+            return false;
+        };
+        spin_up.elapsed = spin_up.elapsed.saturating_add(1);
+        if spin_up.elapsed >= spin_up.length {
+            let level = spin_up.level;
+            return self.finish_spin_up(level);
+        }
+        self.drive = spin_up.drive();
+        false
+    }
+
     /// "Each tick a fan takes": one of the spin-up or one of the ramp; true when a spin-up failed in it.
-    #[inline] // `Chip::tick` is slower without
     pub fn tick(&mut self) -> bool {
-        if let Some(spin_up) = &mut self.spin_up {
-            spin_up.elapsed = spin_up.elapsed.saturating_add(1);
-            if spin_up.elapsed >= spin_up.length {
-                let level = spin_up.level;
-                return self.finish_spin_up(level);
-            }
-            self.drive = spin_up.drive();
-        } else if self.ramp_control() {
-            self.ramp();
+        self.tick_by(self.ramp())
+    }
+
+    /// The same, with the fan's ramp at hand.
+    fn tick_by(&mut self, ramp: Option<Ramp>) -> bool {
+        if self.spin_up.is_some() {
+            return self.spin_up_tick();
+        }
+        if let Some(ramp) = ramp {
+            self.ramp_tick(ramp);
         }
         false
     }
@@ -356,7 +388,7 @@ impl Chip {
         }
         match *event {
             Event::PowerOn { address } => self.power_on(address),
-            Event::Ticks { count } => (0..count).for_each(|_| self.tick()),
+            Event::Ticks { count } => self.ticks(count),
             Event::Sample { fan, count } => self.sample(usize::from(fan - 1), count),
             Event::Wish { fan, drive } => self.fans[usize::from(fan - 1)].take_wish(drive),
             Event::Transfer {
@@ -387,17 +419,33 @@ impl Chip {
         };
     }
 
-    /// Watchdog: "In a tick the watchdog acts first; if it fires the fans don't move in it."
-    fn tick(&mut self) {
+    /// So many ticks, one after the other; the fans' ramps are looked up anew when the watchdog has changed registers.
+    fn ticks(&mut self, count: u16) {
+        let mut ramps = self.ramps();
+        for _ in 0..count {
+            if self.tick(&ramps) {
+                ramps = self.ramps();
+            }
+        }
+    }
+
+    /// Each fan's ramp, by its registers now.
+    fn ramps(&self) -> [Option<Ramp>; 5] {
+        self.fans.each_ref().map(Fan::ramp)
+    }
+
+    /// Watchdog: "In a tick the watchdog acts first; if it fires the fans don't move in it." True when it fires.
+    fn tick(&mut self, ramps: &[Option<Ramp>; 5]) -> bool {
         if self.watch_expires() {
             self.fire();
-            return;
+            return true;
         }
-        for (index, fan) in self.fans.iter_mut().enumerate() {
-            if fan.tick() {
+        for (index, (fan, &ramp)) in self.fans.iter_mut().zip(ramps).enumerate() {
+            if fan.tick_by(ramp) {
                 self.spin_status |= 1 << index;
             }
         }
+        false
     }
 
     /// Watchdog: a running watch counts the tick; true at 320.
