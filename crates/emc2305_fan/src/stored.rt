@@ -28,11 +28,7 @@ impl Fan {
         for i in 0..n {
             let offset = first + i;
             if LAST < offset {
-                return Written {
-                    fan,
-                    programmed,
-                    count: i,
-                };
+                return left(fan, programmed, i);
             }
             if !fan.takes(offset, locked) {
                 continue;
@@ -58,11 +54,7 @@ impl Fan {
                 fan.drive = goal;
             }
         }
-        Written {
-            fan,
-            programmed,
-            count: n,
-        }
+        left(fan, programmed, n)
     }
 
     // Whether a write to the offset is stored, with the lock on or off.
@@ -108,6 +100,17 @@ impl Fan {
         } else {
             false
         }
+    }
+}
+
+// What so many bytes leave.
+fn left(fan: Fan, programmed: bool, count: usize) -> Written
+    ensures { λ r. ⌜ (r .fan ≡ fan) × (r .programmed ≡ programmed) × (r .count ≡ count) ⌝ }
+{
+    Written {
+        fan,
+        programmed,
+        count,
     }
 }
 

@@ -38,13 +38,17 @@ loop-holds c =
 add-offset : tie.Need-add-offset Inv-loop μ-loop
 add-offset c = search needs
 
+left-requires : tie.Need-left-requires Inv-loop μ-loop
+left-requires c κs = search needs
+
 returns : tie.Need-returns Inv-loop μ-loop
 returns c =
-    let l = c .before .before .loop in
-    let a = c .before .before .before .before .args in
-    let past = past-last (a .locked) (a .first + l .i) (drop (l .i) (a .bytes .now)) (l .fan) (search needs) in (
-      sym (past .0) ∙ l .inv .2,
-      (sym (or-false (l .programmed)) ∙ ap (λ (t : Bool). l .programmed || t) (sym (past .1)) ∙ l .inv .3, search needs),
+    let l = c .before .before .before .loop in
+    let a = c .before .before .before .before .before .args in
+    let past = past-last (a .locked) (a .first + l .i) (drop (l .i) (a .bytes .now)) (l .fan) (search needs) in
+    let e = c .left .ensures in (
+      e .0 ∙ sym (past .0) ∙ l .inv .2,
+      (e .1 ∙ sym (or-false (l .programmed)) ∙ ap (λ (t : Bool). l .programmed || t) (sym (past .1)) ∙ l .inv .3, e .2 ∙ search needs),
     )
 
 takes-requires : tie.Need-takes-requires Inv-loop μ-loop
@@ -183,16 +187,20 @@ loop-again-2 c =
           (rw (c .before .before .before .before .before .before .programs .ensures, yes) refl) ∙ l .inv .3,
     )
 
+left-requires-2 : tie.Need-left-requires-2 Inv-loop μ-loop
+left-requires-2 c κs = search needs
+
 returns-2 : tie.Need-returns-2 Inv-loop μ-loop
 unfolding bytesTaken bytesProgram
 returns-2 c =
-    let l = c .before .loop in
-    let a = c .before .before .before .args in
-    let over = drop-of-length-le (a .bytes .now) {i = l .i} (search needs) in (
-      ap (λ (b : List ℕ). bytesTaken (a .locked) (a .first + l .i) b (l .fan)) (sym over) ∙ l .inv .2,
+    let l = c .before .before .loop in
+    let a = c .before .before .before .before .args in
+    let over = drop-of-length-le (a .bytes .now) {i = l .i} (search needs) in
+    let e = c .left2 .ensures in (
+      e .0 ∙ ap (λ (b : List ℕ). bytesTaken (a .locked) (a .first + l .i) b (l .fan)) (sym over) ∙ l .inv .2,
       (
-        sym (or-false (l .programmed)) ∙ ap (λ (b : List ℕ). l .programmed || bytesProgram (a .locked) (a .first + l .i) b (l .fan)) (sym over) ∙ l .inv .3,
-        search needs,
+        e .1 ∙ sym (or-false (l .programmed)) ∙ ap (λ (b : List ℕ). l .programmed || bytesProgram (a .locked) (a .first + l .i) b (l .fan)) (sym over) ∙ l .inv .3,
+        e .2 ∙ search needs,
       ),
     )
 
@@ -204,6 +212,7 @@ write-spec =
     μ-loop
     loop-holds
     add-offset
+    left-requires
     returns
     takes-requires
     add-i
@@ -224,4 +233,5 @@ write-spec =
     add-i-2
     loop-less-2
     loop-again-2
+    left-requires-2
     returns-2)
