@@ -24,11 +24,17 @@ pub turn-over : (n i : ℕ) (bytes : List ℕ) (c : Chip) → length bytes ≤ i
 unfolding inTurn
 turn-over n i bytes c h = rw (drop-of-length-le bytes {i = i} h) refl
 
--- a write with no bytes, and one with some
+-- a write with no bytes, one with a single byte, and one with some
 pub sent-none : (bytes : List ℕ) (c : Chip) → length bytes ≡ 0 → c ≡ sent bytes c
 unfolding sent
 sent-none [] c e = refl
 sent-none (byte ∷ bytes) c e = absurd (omega arith)
+
+pub sent-one : (bytes : List ℕ) (c : Chip) → length bytes ≡ 1 → withPointer (getD bytes 0 0) c ≡ sent bytes c
+unfolding sent inTurn
+sent-one [] c e = absurd (omega arith)
+sent-one (pointer ∷ []) c e = refl
+sent-one (pointer ∷ byte ∷ rest) c e = absurd (omega arith)
 
 pub sent-some : (bytes : List ℕ) (c : Chip) → 1 ≤ length bytes
     → inTurn (length (lentFrom 1 bytes)) (lentFrom 1 bytes) (withPointer (getD bytes 0 0) c) ≡ sent bytes c

@@ -15,6 +15,10 @@ pub(crate) fn sent(mut chip: Chip, bytes: &[u8]) -> Chip
         return chip;
     }
     chip.pointer = bytes[0];
+    // Mostly a read comes next, and there is nothing to write.
+    if bytes.len() == 1 {
+        return chip;
+    }
     in_turn(chip, &bytes[1..])
 }
 
