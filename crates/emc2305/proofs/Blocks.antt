@@ -1,7 +1,7 @@
 -- Data bytes while pointer and fans are held apart from the chip.
 use mathlib.Core.Path.{_≡_, refl, sym, ap, _∙_}
 use mathlib.Core.Bool.{Bool, true, false, cond, _&&_, _||_, true≢false}
-use mathlib.Core.List.{List, [], _∷_, map}
+use mathlib.Core.List.{List, [], _∷_}
 use Prim.Native.Nat.{ℕ, suc, min, _+_, _-_, _*_, _≤_, _<_}
 use native.Mathlib.Omega.{arith}
 use lib.Dec.{leb}
@@ -90,7 +90,7 @@ either-programs false true w = refl
 either-programs false false w = refl
 
 -- the pointer past no byte, and past one more
-pub past-none : (n p : ℕ) → p < 256 → pointerAfter n 0 p ≡ p
+past-none : (n p : ℕ) → p < 256 → pointerAfter n 0 p ≡ p
 past-none n p h = by-test (leb n 1) (λ t. rw t) (λ t. rw t (omega arith))
 
 past-more : (n p m : ℕ) → pointerAfter n m (pointerPast n p) ≡ pointerAfter n (suc m) p

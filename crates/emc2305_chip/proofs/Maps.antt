@@ -29,10 +29,6 @@ module _ (a : ℕ) where
   pub over : (first last : ℕ) → first ≤ last → last < a → within first last a ≡ false
   over first last w h = let p : first ≤ a = omega arith in rw (le-leb first a p) (lt-leb a last h)
 
-  -- at or past a number, and not that number
-  pub past : (k : ℕ) → k ≤ a → (a ≡ k → ⊥) → k < a
-  past k h n = omega arith
-
   -- past the single addresses, what holds of the ranges and EFh
   from-2A : (r : Register) → 0x2A ≤ a
       → (cond (within 0x2A 0x2D a) (OfChip (Output (a - 0x2A)))

@@ -80,15 +80,11 @@ sets-ramp f e r = rw (e, r)
 pub sets-goal : (f : Fan) → spinStarts f ≡ false → underRamp f ≡ false → driveSet f ≡ withDrive (goal f) f
 sets-goal f e r = rw (e, r)
 
--- a write that is stored, and one that is not
+-- a write that is stored
 pub writes : (o b : ℕ) (f : Fan) → stores f o ≡ true
     → written o b f ≡ settled (clockSet o (wishTaken (closedLoop f) (put o b f)))
 unfolding written
 writes o b f e = rw e
-
-pub writes-nothing : (o b : ℕ) (f : Fan) → stores f o ≡ false → written o b f ≡ f
-unfolding written
-writes-nothing o b f e = rw e
 
 -- a sample that is judged a stall, one that is not slow, one that is not judged
 pub stalls : (w : Bool) (f : Fan) → judged w f ≡ true → tooSlow f ≡ true → judgedStall w f ≡ stall f

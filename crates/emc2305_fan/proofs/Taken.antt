@@ -1,5 +1,5 @@
 -- Data bytes for one fan: one more, and none past F.
-use mathlib.Core.Path.{_≡_, refl, sym, ap, _∙_}
+use mathlib.Core.Path.{_≡_, refl, sym}
 use mathlib.Core.Bool.{Bool, true, false, not, _&&_, _||_}
 use mathlib.Core.List.{List, [], _∷_}
 use Prim.Native.Nat.{ℕ, _+_, _≤_, _<_}
@@ -11,7 +11,7 @@ use Rattle.laws.proofs.Tests.{and-left}
 use Rattle.emc2305_fan.specs.declared.Fan.{Fan}
 use Rattle.emc2305_fan.specs.State.{withWish, withClock}
 use Rattle.emc2305_fan.specs.Registers.{closedLoop, locked, stores}
-use Rattle.emc2305_fan.specs.Stored.{put, wishTaken, clearsClock, clockSet, settled, written, programs, takes, byteTaken, bytesTaken, bytesProgram}
+use Rattle.emc2305_fan.specs.Stored.{put, wishTaken, clearsClock, clockSet, settled, programs, takes, byteTaken, bytesTaken, bytesProgram}
 use Rattle.emc2305_fan.proofs.Offsets.{stores-none}
 use Rattle.emc2305_fan.proofs.Steps.{writes}
 

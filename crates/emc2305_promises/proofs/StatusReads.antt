@@ -1,6 +1,6 @@
 -- What the bytes of a read do to a fan's status, and what they show of it (specs/Held.antt).
 use mathlib.Core.Path.{_≡_, refl, sym, ap, _∙_}
-use mathlib.Core.Bool.{Bool, true, false}
+use mathlib.Core.Bool.{true, false}
 use mathlib.Core.List.{List}
 use Prim.Native.Nat.{ℕ, zero, suc, _+_, _-_, _%_, _≤_, _<_}
 use native.Mathlib.Omega.{arith}
@@ -29,7 +29,7 @@ use Rattle.emc2305.specs.Step.{taken, replyTo}
 use Rattle.emc2305.proofs.Effects.{by-effect}
 use Rattle.emc2305.proofs.Pointers.{reads-pass, reply-at}
 use Rattle.walks.specs.Sequence.{Handed}
-use Rattle.emc2305_promises.specs.Ramp.{isTaken, fanOf}
+use Rattle.emc2305_promises.specs.Ramp.{fanOf}
 use Rattle.emc2305_promises.specs.Alone.{played, ofRead}
 use Rattle.emc2305_promises.specs.Held.{registerFor, replyByte, readFrom, Reads, readsAmong}
 use Rattle.emc2305_promises.proofs.OwnBytes.{reads-count, read-own}

@@ -1,21 +1,16 @@
 -- `emc2305::transfers::in_turn` meets its contract.
 use mathlib.Core.Logic.{⊎-elim}
 use mathlib.Core.Path.{_≡_, refl, sym, ap, _∙_}
-use mathlib.Core.Bool.{Bool, true, false}
-use mathlib.Core.List.{List}
 use Prim.Native.Nat.{ℕ, _+_, _-_, _≤_}
 use native.Mathlib.Omega.{arith}
 use lib.ListN.{length, getD, drop, length-set, length-map, length-drop}
 use borrow.Author.Needs.{needs}
 use Rattle.laws.proofs.Buffer.{lent-is}
-use Rattle.laws.proofs.Cases.{cases}
-use Rattle.emc2305_fan.specs.declared.Fan.{Fan}
-use Rattle.emc2305_chip.specs.declared.Chip.{Chip}
 use Rattle.emc2305_chip.specs.declared.Register.the-variants.{OfFan}
 use Rattle.emc2305_chip.proofs.Maps.{Placed, found-at}
-use Rattle.emc2305.specs.Transfers.{pointerPast, pointerAfter, byteWritten, inTurn}
+use Rattle.emc2305.specs.Transfers.{pointerPast, pointerAfter, inTurn}
 use Rattle.emc2305.proofs.Turns.{turn-next, turn-over}
-use Rattle.emc2305.proofs.Blocks.{held, programmedIf, own-byte, read-only, nowhere, row-turn}
+use Rattle.emc2305.proofs.Blocks.{held, own-byte, read-only, nowhere, row-turn}
 use Rattle.emc2305.proofs.transfers.in_turn.Statement.{statement}
 use Rattle.emc2305.proofs.transfers.in_turn.Tie as tie
 

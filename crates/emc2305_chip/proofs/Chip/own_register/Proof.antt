@@ -1,5 +1,4 @@
 -- `emc2305_chip::Chip::own_register` meets its contract.
-use mathlib.Core.Path.{_∙_}
 use borrow.Author.Needs.{needs}
 use Rattle.emc2305_chip.proofs.Chip.own_register.Statement.{statement}
 use Rattle.emc2305_chip.proofs.Chip.own_register.Tie as tie

@@ -3,7 +3,6 @@ use mathlib.Core.Path.{sym, ap, _∙_}
 use Prim.Native.Nat.{ℕ, _+_}
 use native.Mathlib.Omega.{arith}
 use borrow.Author.Tests.{ne-eqb}
-use borrow.Author.Needs.{needs}
 use Rattle.emc2305_chip.specs.declared.Own.the-variants.{Identity}
 use Rattle.emc2305_chip.specs.declared.Register.the-variants.{OfChip}
 use Rattle.emc2305_chip.proofs.Maps.{maps-identity, maps-high}

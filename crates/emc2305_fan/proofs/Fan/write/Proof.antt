@@ -1,7 +1,7 @@
 -- `emc2305_fan::Fan::write` meets its contract.
 use mathlib.Core.Logic.{⊎-elim}
 use mathlib.Core.Path.{_≡_, refl, sym, ap, _∙_}
-use mathlib.Core.Bool.{Bool, true, _&&_, _||_, or-false}
+use mathlib.Core.Bool.{Bool, _||_, or-false}
 use Prim.Native.Nat.{ℕ, _+_, _-_, _≤_}
 use native.Mathlib.Omega.{arith}
 use mathlib.Core.List.{List}
@@ -10,7 +10,6 @@ use borrow.Author.Needs.{needs}
 use borrow.Author.Tests.{not-true, not-false}
 use Rattle.emc2305_fan.specs.Registers.{closedLoop}
 use Rattle.emc2305_fan.specs.Stored.{put, wishTaken, clockSet, settled, takes, programs, byteTaken, bytesTaken, bytesProgram}
-use Rattle.emc2305_fan.proofs.Offsets.{stores-within}
 use Rattle.emc2305_fan.proofs.Steps.{settles-spin, settles-out, held-ends, held-on, sets-start, sets-ramp, sets-goal}
 use Rattle.emc2305_fan.proofs.Taken.{takes-wish, leaves-wish, clears, leaves-clock, stored, refused, past-last, taken-next, programs-next}
 use Rattle.emc2305_fan.proofs.Fan.write.Statement.{statement}
