@@ -25,9 +25,10 @@ use Rattle.emc2305_chip.specs.declared.Own.{Own}
 use Rattle.emc2305_chip.specs.declared.Own.the-variants.{Configuration, Status, StallStatus, SpinStatus, DriveFailStatus, Enable, Output, Lock, Identity}
 use Rattle.emc2305_chip.specs.declared.Register.{Register}
 use Rattle.emc2305_chip.specs.declared.Register.the-variants.{OfFan, OfChip, Undefined}
-use Rattle.emc2305_chip.specs.State.{withFans, withPointer, withWatch}
+use Rattle.emc2305_chip.specs.State.{withFans, withPointer}
 use Rattle.emc2305_chip.specs.Map.{registerOf}
 use Rattle.emc2305_chip.specs.Fans.{noFan, fanAt}
+use Rattle.emc2305_chip.specs.Watching.{programmedIf}
 use Rattle.emc2305_chip.specs.Registers.{isLocked, ownShown, clears, ownCleared, clearedOf, writable, ownStores, ownWritten, fanStored, shownAt, clearedAt, storesAt, writtenAt}
 use Rattle.emc2305_chip.proofs.Maps.{fan-map}
 use Rattle.emc2305_chip.proofs.Moves.{cleared-keeps}
@@ -36,10 +37,6 @@ use Rattle.emc2305.specs.Transfers.{pointerPast, pointerAfter, byteWritt
 -- the chip with its pointer and its fans
 abbrev pub held : ℕ → List Fan → Chip → Chip
 held p fans c = withPointer p (withFans fans c)
-
--- the chip after bytes for a fan, of which one programmed it or none
-abbrev pub programmedIf : Bool → Chip → Chip
-programmedIf flag c = withWatch (cond flag (programmed (c .watch)) (c .watch)) c
 
 module _ (n p byte : ℕ) (fans : List Fan) (c : Chip) where
   -- a byte for a fan, stored or not

@@ -1,5 +1,5 @@
 -- What touches the watch but ticks: a stored write to a fan or to 20h, and a transfer.
-use mathlib.Core.Bool.{cond}
+use mathlib.Core.Bool.{Bool, cond}
 use Prim.Native.Nat.{ℕ}
 use Rattle.emc2305_fan.specs.Registers.{bit}
 use Rattle.emc2305_fan.specs.Stored.{programs}
@@ -7,13 +7,13 @@ use Rattle.emc2305_watchdog.specs.Watch.{fed, programmed, configured}
 use Rattle.emc2305_chip.specs.declared.Chip.{Chip}
 use Rattle.emc2305_chip.specs.State.{withWatch}
 
--- a fan is programmed, which ends the power-up watch
-abbrev pub programmedChip : Chip → Chip
-programmedChip c = withWatch (programmed (c .watch)) c
+-- where a fan is programmed, the power-up watch ends
+abbrev pub programmedIf : Bool → Chip → Chip
+programmedIf flag c = withWatch (cond flag (programmed (c .watch)) (c .watch)) c
 
 -- a stored write that programs a fan ends the power-up watch
 abbrev pub programmedBy : ℕ → ℕ → Chip → Chip
-programmedBy offset byte c = withWatch (cond (programs offset byte) (programmed (c .watch)) (c .watch)) c
+programmedBy offset byte c = programmedIf (programs offset byte) c
 
 -- a stored write to 20h starts or ends the continuous watch by its bit 5, WD_EN
 abbrev pub configuredBy : ℕ → Chip → Chip

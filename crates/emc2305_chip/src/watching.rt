@@ -2,8 +2,9 @@
 use crate::Chip;
 use emc2305_watchdog::Watch;
 ghost use mathlib.Core.Path.{_≡_};
+ghost use mathlib.Core.Bool.{true};
 ghost use Rattle.emc2305_chip.specs.State.{withWatch};
-ghost use Rattle.emc2305_chip.specs.Watching.{programmedChip, configuredBy, fedChip};
+ghost use Rattle.emc2305_chip.specs.Watching.{programmedIf, configuredBy, fedChip};
 
 // The weight of WD_EN in 20h.
 const WD_EN: u8 = 0x20;
@@ -11,7 +12,7 @@ const WD_EN: u8 = 0x20;
 impl Chip {
     // A fan is programmed, which ends the power-up watch.
     pub fn programmed(self) -> Chip
-        ensures { λ r. ⌜ r ≡ programmedChip self ⌝ }
+        ensures { λ r. ⌜ r ≡ programmedIf true self ⌝ }
     {
         let watch = self.watch;
         self.with_watch(watch.programmed())

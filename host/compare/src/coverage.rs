@@ -26,7 +26,7 @@ pub struct Coverage {
 }
 
 /// What is counted by name. Numbers, registers, periods and Spin Up settings have names of their own.
-const NAMES: [&str; 75] = [
+const NAMES: [&str; 81] = [
     // The log
     "power-on while powered",
     "power-on at another address while powered",
@@ -41,6 +41,12 @@ const NAMES: [&str; 75] = [
     "Setting written in closed loop",
     "block read over FFh",
     "block write over FFh",
+    "block read into the first fan",
+    "block write into the first fan",
+    "block read from a fan into the next",
+    "block write from a fan into the next",
+    "block read past the last fan",
+    "block write past the last fan",
     "address byte alone",
     "pointer byte alone",
     "WATCH read and cleared",
@@ -330,10 +336,22 @@ impl Coverage {
 
 // ---- transfers ----
 
+/// Where the registers of fans 2 to 5 begin.
+const FAN_BORDERS: [u8; 4] = [0x40, 0x50, 0x60, 0x70];
+
+/// Whether a block of so many bytes has registers on both sides of a border.
+fn goes_over(first: u8, count: usize, border: u8) -> bool {
+    first < border && usize::from(first) + count > usize::from(border)
+}
+
 impl Coverage {
     fn reads(&mut self, chip: &Chip, count: usize) {
         self.count("continuous watch fed by a read", fed_at(chip) > 0);
         self.count("block read over FFh", usize::from(chip.pointer) + count > 256);
+        self.count("block read into the first fan", goes_over(chip.pointer, count, 0x30));
+        let next = FAN_BORDERS.iter().any(|&border| goes_over(chip.pointer, count, border));
+        self.count("block read from a fan into the next", next);
+        self.count("block read past the last fan", goes_over(chip.pointer, count, 0x80));
         for register in aimed_at(chip.pointer, count) {
             self.read[usize::from(register)] += 1;
             match register {
@@ -399,6 +417,10 @@ impl Coverage {
             return;
         };
         self.count("block write over FFh", usize::from(pointer) + data.len() > 256);
+        self.count("block write into the first fan", goes_over(pointer, data.len(), 0x30));
+        let next = FAN_BORDERS.iter().any(|&border| goes_over(pointer, data.len(), border));
+        self.count("block write from a fan into the next", next);
+        self.count("block write past the last fan", goes_over(pointer, data.len(), 0x80));
         let mut chip = chip.clone();
         for (register, &byte) in aimed_at(pointer, data.len()).zip(data) {
             let before = chip.clone();
