@@ -13,7 +13,7 @@ use Rattle.eventlog.specs.declared.Event.{Event}
 use Rattle.eventlog.specs.Kinds.{replyLength}
 use Rattle.eventlog.specs.Numbers.{fieldFault}
 use Rattle.eventlog.specs.Range.{rangeNumber}
-use Rattle.eventlog.proofs.Numbered.{range-fault}
+use Rattle.eventlog.proofs.Ranges.{range-fault}
 use Rattle.emc2305_chip.specs.Watching.{fedChip}
 use Rattle.emc2305_chip.specs.declared.Chip.{Chip}
 use Rattle.emc2305.specs.declared.Answer.{Answer}
@@ -44,7 +44,7 @@ module _ (powered : Bool) (address : ℕ) (log : List ℕ) (event : Event) (room
       (λ e.
       by-test (ltb room (replyLength log event)) (λ s. rw (z, b, e, s) (refl, refl, refl, ltb-true room (replyLength log event) s))
       (λ s. rw (z, b, e, s) (refl, refl, refl, ltb-false room (replyLength log event) s)))))
-      (λ r. rw (r, range-fault log event r))
+      (λ r. rw (r, range-fault log event (eqb-false (rangeNumber log event) 0 r)))
 
 pub step-numbers : StepNumbers
 unfolding stepNumber

@@ -11,23 +11,23 @@ use Rattle.laws.proofs.Tests.{and-left, and-right}
 use Rattle.eventlog.specs.declared.Event.{Event}
 use Rattle.eventlog.specs.declared.Event.the-variants.{Sample, Wish, Transfer}
 use Rattle.eventlog.specs.Kinds.{replyLength}
-use Rattle.eventlog.specs.Range.{fanInRange, inRange, rangeNumber}
-use Rattle.eventlog.proofs.Ranges.{in-range, place-within, one-byte}
+use Rattle.eventlog.specs.Range.{fanInRange, rangeNumber}
+use Rattle.eventlog.proofs.Ranges.{fan-right, place-within, one-byte}
 use Rattle.emc2305.specs.Step.{beforePower, elsewhere, stepNumber}
 
 module _ (log : List ℕ) (event : Event) (good : rangeNumber log event ≡ 0) where
-  in-range-as : (other : Event) → event ≡ other → inRange log other ≡ true
-  in-range-as other e = subst (λ (x : Event). inRange log x ≡ true) e (in-range log event good)
+  in-range-as : (other : Event) → event ≡ other → rangeNumber log other ≡ 0
+  in-range-as other e = subst (λ (x : Event). rangeNumber log x ≡ 0) e good
 
   from-fan : (fan : ℕ) → fanInRange fan ≡ true → (1 ≤ fan) × (fan ≤ 5)
   from-fan fan e = (leb-true 1 fan (and-left (leb 1 fan) (leb fan 5) e), leb-true fan 5 (and-right (leb 1 fan) (leb fan 5) e))
 
   -- the fan of a sample or a wish
   pub sample-fan : (fan count : ℕ) → event ≡ Sample fan count → (1 ≤ fan) × (fan ≤ 5)
-  sample-fan fan count e = from-fan fan (and-left (fanInRange fan) (leb count 8191) (in-range-as (Sample fan count) e))
+  sample-fan fan count e = from-fan fan (fan-right log (Sample fan count) (in-range-as (Sample fan count) e))
 
   pub wish-fan : (fan drive : ℕ) → event ≡ Wish fan drive → (1 ≤ fan) × (fan ≤ 5)
-  wish-fan fan drive e = from-fan fan (in-range-as (Wish fan drive) e)
+  wish-fan fan drive e = from-fan fan (fan-right log (Wish fan drive) (in-range-as (Wish fan drive) e))
 
   -- the bytes of a transfer lie within the log, and a read has one
   pub sent-within : (reads : Bool) (to place n : ℕ) → event ≡ Transfer reads to place n → place + n ≤ length log

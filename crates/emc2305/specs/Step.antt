@@ -28,7 +28,7 @@ beforePower powered = onPowerOn (not powered) (λ address. false)
 abbrev pub elsewhere : ℕ → Event → Bool
 elsewhere address = onTransfer false (λ reads to place n. not (eqb to address))
 
--- a step's number: 5, then 6, 7, 8
+-- a step's number: that of a field out of range, then 6, 7, 8
 unfoldable pub stepNumber : Bool → ℕ → List ℕ → Event → ℕ → ℕ
 stepNumber powered address log event room =
     cond (not (eqb (rangeNumber log event) 0)) (rangeNumber log event)

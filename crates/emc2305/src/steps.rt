@@ -36,7 +36,7 @@ pub fn step(chip: Chip, log: &[u8], event: Event, reply: &mut [u8]) -> Answer
     }
 }
 
-// The number: 5, then 6, 7, 8.
+// The number: that of a field out of range, then 6, 7, 8.
 fn step_number(powered: bool, address: u8, log: &[u8], event: Event, room: usize) -> u8
     ensures { λ r. ⌜ r ≡ stepNumber powered address (now (log .entry)) event room ⌝ }
 {

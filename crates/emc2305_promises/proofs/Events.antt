@@ -7,8 +7,7 @@ use lib.Dec.{eqb}
 use borrow.Author.Tests.{eqb-true, eqb-false, eq-eqb, ne-eqb}
 use Rattle.laws.proofs.Tests.{by-test}
 use Rattle.eventlog.specs.Kinds.{replyLength}
-use Rattle.eventlog.specs.Range.{inRange}
-use Rattle.eventlog.proofs.Ranges.{in-range}
+use Rattle.eventlog.specs.Range.{rangeNumber}
 use Rattle.emc2305_watchdog.specs.declared.Watch.{Watch}
 use Rattle.emc2305_watchdog.specs.declared.Watch.the-variants.{Off, PowerUp, Continuous}
 use Rattle.emc2305_watchdog.specs.Watch.{isOff}
@@ -32,7 +31,7 @@ same-fan fan i h =
 
 module _ (h : Handed) (c : Chip) where
   -- an event is taken, and is in range, or it leaves the chip as it was
-  pub by-taken : {X : Type 0} → (isTaken h c ≡ true → next h c ≡ taken (h .log) (h .event) c → inRange (h .log) (h .event) ≡ true → X)
+  pub by-taken : {X : Type 0} → (isTaken h c ≡ true → next h c ≡ taken (h .log) (h .event) c → rangeNumber (h .log) (h .event) ≡ 0 → X)
       → (isTaken h c ≡ false → next h c ≡ c → X) → X
   unfolding stepped
   by-taken is isnt =
@@ -43,7 +42,7 @@ module _ (h : Handed) (c : Chip) where
       let e : stepped c (h .log) (h .event) (h .room)
       ≡ record { number = 0; laid = replyLength (h .log) (h .event); chip = taken (h .log) (h .event) c } = rw t in
       is (ap (λ (a : Answer). eqb (a .number) 0) e) (ap (λ (a : Answer). a .chip) e)
-      (in-range (h .log) (h .event) (numbers .4 .0 (eqb-true n 0 t) .0)))
+      (numbers .4 .0 (eqb-true n 0 t) .0))
       (λ f.
       let e : stepped c (h .log) (h .event) (h .room) ≡ record { number = n; laid = 0; chip = c } = rw f in
       isnt (ap (λ (a : Answer). eqb (a .number) 0) e ∙ f) (ap (λ (a : Answer). a .chip) e))

@@ -14,7 +14,7 @@ use Rattle.laws.proofs.Tests.{by-test, and-left, and-right}
 use Rattle.eventlog.specs.declared.Event.{Event}
 use Rattle.eventlog.specs.declared.Event.the-variants.{Sample}
 use Rattle.eventlog.specs.Kinds.{replyLength}
-use Rattle.eventlog.specs.Range.{inRange, rangeNumber}
+use Rattle.eventlog.specs.Range.{rangeNumber}
 use Rattle.eventlog.proofs.Ranges.{reply-small}
 use Rattle.emc2305_fan.specs.declared.Bit.{Bit}
 use Rattle.emc2305_fan.specs.declared.Bit.the-variants.{Stall, Spin}
@@ -229,10 +229,6 @@ register-byte : (which : Bit) → registerFor which < 256
 register-byte Stall = omega arith
 register-byte Spin = omega arith
 
-ranged-number : (log : List ℕ) (event : Event) → inRange log event ≡ true → rangeNumber log event ≡ 0
-unfolding rangeNumber
-ranged-number log event e = rw e
-
 -- a fan that turns, with its bit
 module _ (which : Bit) (i : ℕ) where
   abbrev Turning : Bool → Fan → Type 0
@@ -258,7 +254,7 @@ module _ (which : Bit) (i : ℕ) where
       let there : i < length (d .fans) = rw (reads-count n k (fedChip c)) (omega arith) in
       by-taken h c
       (λ is e ranged.
-      let small : n ≤ 32 = reply-small (h .log) (h .event) (ranged-number (h .log) (h .event) ranged) in
+      let small : n ≤ 32 = reply-small (h .log) (h .event) ranged in
       let x = unread-keeps stood n k (fedChip c) (omega arith) p
       (λ j before first. read-once n j k (fedChip c) (registerFor which) (register-byte which) small before short first from) in
       let cleared : standing which (bitRead which (fanOf i d)) ≡ false =

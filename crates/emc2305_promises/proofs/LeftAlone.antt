@@ -12,7 +12,8 @@ use Rattle.laws.proofs.Tests.{by-test, and-left, and-right}
 use Rattle.eventlog.specs.declared.Event.{Event}
 use Rattle.eventlog.specs.declared.Event.the-variants.{PowerOn, Ticks, Sample, Wish, Transfer}
 use Rattle.eventlog.specs.Kinds.{isPowerOn, replyLength}
-use Rattle.eventlog.specs.Range.{fanInRange, inRange}
+use Rattle.eventlog.specs.Range.{fanInRange, rangeNumber}
+use Rattle.eventlog.proofs.Ranges.{fan-right}
 use Rattle.emc2305_fan.specs.declared.Fan.{Fan}
 use Rattle.emc2305_fan.specs.Drive.{wished}
 use Rattle.emc2305_fan.specs.Tick.{ticked}
@@ -82,7 +83,7 @@ module _ (i : ℕ) (P : Fan → Type 0) (kept : Kept P) where
 
     abbrev KeepsOn : Event → Type 0
     KeepsOn event =
-        isTaken (handed event) c ≡ true → next (handed event) c ≡ taken log event c → inRange log event ≡ true
+        isTaken (handed event) c ≡ true → next (handed event) c ≡ taken log event c → rangeNumber log event ≡ 0
         → leftAlone i (handed event) c ≡ true → P (fanOf i (readOut (replyLength log event) (fedChip c))) → P (fanOf i (next (handed event) c))
 
     same : (event : Event) → fanOf i (next (handed event) c) ≡ fanOf i c → P (fanOf i (next (handed event) c))
@@ -100,7 +101,7 @@ module _ (i : ℕ) (P : Fan → Type 0) (kept : Kept P) where
     of-sample k count t e ranged q r =
         same (Sample k count)
         (other-fans c log room i .0 k count
-        (another k (and-left (fanInRange k) (leb count 8191) ranged) (no-sample i (handed (Sample k count)) c q t)))
+        (another k (fan-right log (Sample k count) ranged) (no-sample i (handed (Sample k count)) c q t)))
 
     of-a-wish : (k drive : ℕ) → KeepsOn (Wish k drive)
     unfolding taken
@@ -111,7 +112,7 @@ module _ (i : ℕ) (P : Fan → Type 0) (kept : Kept P) where
         let is : fanOf i (next (handed (Wish k drive)) c) ≡ wished drive (fanOf i c) =
         ap (fanOf i) e ∙ ap (λ (j : ℕ). fanOf i (onFan j (wished drive) c)) at ∙ one-fan c i (wished drive) .0 l in
         subst P (sym is) (kept .of-wish drive (fanOf i c) p))
-        (λ n. same (Wish k drive) (other-fans c log room i .1 k drive (another k ranged n)))
+        (λ n. same (Wish k drive) (other-fans c log room i .1 k drive (another k (fan-right log (Wish k drive) ranged) n)))
 
     of-taken : (event : Event) → KeepsOn event
     unfolding taken

@@ -12,7 +12,8 @@ use Rattle.laws.specs.Repeat.{repeated}
 use Rattle.laws.proofs.Tests.{and-left, and-right}
 use Rattle.eventlog.specs.declared.Event.{Event}
 use Rattle.eventlog.specs.declared.Event.the-variants.{Sample, Wish}
-use Rattle.eventlog.specs.Range.{fanInRange, inRange}
+use Rattle.eventlog.specs.Range.{fanInRange, rangeNumber}
+use Rattle.eventlog.proofs.Ranges.{fan-right}
 use Rattle.emc2305_fan.specs.declared.Fan.{Fan}
 use Rattle.emc2305_fan.specs.Tick.{ticked}
 use Rattle.emc2305_watchdog.specs.declared.Watch.the-variants.{Off}
@@ -60,17 +61,17 @@ module _ (i : ℕ) (log : List ℕ) (c : Chip) (off : c .watch ≡ Off) (h : i <
       → fanOf i (onFan (fan - 1) (moveBy own) c) ≡ played (cond (eqb fan (i + 1)) (own ∷ []) []) (fanOf i c)
   for-fan fan own r = rw (← same-fan fan i (leb-true 1 fan (and-left (leb 1 fan) (leb fan 5) r))) (one-own i (fan - 1) own c h)
 
-  taken-own : (event : Event) → inRange log event ≡ true → isOff (taken log event c .watch) ≡ true
+  taken-own : (event : Event) → rangeNumber log event ≡ 0 → isOff (taken log event c .watch) ≡ true
       → fanOf i (taken log event c) ≡ played (ofEvent i log event c) (fanOf i c)
   unfolding taken atDefaults played
   taken-own =
       by-effect
       (λ (e : Event).
-      inRange log e ≡ true → isOff (taken log e c .watch) ≡ true → fanOf i (taken log e c) ≡ played (ofEvent i log e c) (fanOf i c))
+      rangeNumber log e ≡ 0 → isOff (taken log e c .watch) ≡ true → fanOf i (taken log e c) ≡ played (ofEvent i log e c) (fanOf i c))
       (λ address r o. absurd (false≢true o))
       (λ n r o. rw (append-nil (replicate n tick)) (fan-ticks c i n off h .0 ∙ played-ticks n (fanOf i c)))
-      (λ fan n r o. rw (append-nil (ofSample i (Sample fan n)), off) (for-fan fan (sample n) (and-left (fanInRange fan) (leb n 8191) r)))
-      (λ fan drive r o. rw (append-nil (ofWish i (Wish fan drive))) (for-fan fan (wish drive) r))
+      (λ fan n r o. rw (append-nil (ofSample i (Sample fan n)), off) (for-fan fan (sample n) (fan-right log (Sample fan n) r)))
+      (λ fan drive r o. rw (append-nil (ofWish i (Wish fan drive))) (for-fan fan (wish drive) (fan-right log (Wish fan drive) r)))
       (λ to place n r o. reads-own i (getD log place 0) (getD log place 0) (fedChip c) h)
       (λ to place n r o. sent-own i (bytesAt log place n) (fedChip c) h)
       (λ e idle r o. rw (idle .leaves log c, idle-own i log e c idle))

@@ -14,7 +14,8 @@ use Rattle.laws.proofs.Tests.{by-test, and-left}
 use Rattle.eventlog.specs.declared.Event.{Event}
 use Rattle.eventlog.specs.declared.Event.the-variants.{PowerOn, Ticks, Sample, Wish, Transfer}
 use Rattle.eventlog.specs.Kinds.{ticksOf}
-use Rattle.eventlog.specs.Range.{inRange}
+use Rattle.eventlog.specs.Range.{rangeNumber}
+use Rattle.eventlog.proofs.Ranges.{fan-right}
 use Rattle.emc2305_fan.specs.declared.Fan.{Fan}
 use Rattle.emc2305_fan.specs.State.{withWish}
 use Rattle.emc2305_fan.specs.Registers.{byteAt, closedLoop}
@@ -147,7 +148,7 @@ module _ (i d g s u p : ℕ) (log : List ℕ) (room : ℕ) (c : Chip) (r : Rampi
   -- it ramps on over an event that is taken, by the ticks that the event holds
   abbrev RampsOn : Event → Type 0
   RampsOn event =
-      isTaken (handed event) c ≡ true → next (handed event) c ≡ taken log event c → inRange log event ≡ true
+      isTaken (handed event) c ≡ true → next (handed event) c ≡ taken log event c → rangeNumber log event ≡ 0
       → undisturbed i (handed event) c ≡ true → Ramped (ticksOf event) i d g s u p (next (handed event) c)
 
   power-on-kept : (address : ℕ) → RampsOn (PowerOn address)
@@ -178,7 +179,7 @@ module _ (i d g s u p : ℕ) (log : List ℕ) (room : ℕ) (c : Chip) (r : Rampi
   unfolding taken
   wish-kept k drive t e ranged q =
       let event = Wish k drive in
-      let some = leb-true 1 k (and-left (leb 1 k) (leb k 5) ranged) in
+      let some = leb-true 1 k (and-left (leb 1 k) (leb k 5) (fan-right log (Wish k drive) ranged)) in
       by-test (eqb k (i + 1))
       (λ y.
       let at : i ≡ k - 1 = omega (arith, eqb-true k (i + 1) y) in

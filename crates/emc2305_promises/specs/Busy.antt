@@ -63,7 +63,7 @@ abbrev pub BusyRamp : Type 0
 BusyRamp =
     Ramping 1 153 240 16 32 10 ready
     × (throughout (undisturbed 1) busyEvents ready ≡ true)
-    × (numbersOf busyEvents ready ≡ 0 ∷ 0 ∷ 7 ∷ 5 ∷ 0 ∷ 0 ∷ 0 ∷ 0 ∷ 8 ∷ 0 ∷ 0 ∷ 0 ∷ 0 ∷ 0 ∷ 0 ∷ [])
+    × (numbersOf busyEvents ready ≡ 0 ∷ 0 ∷ 7 ∷ 10 ∷ 0 ∷ 0 ∷ 0 ∷ 0 ∷ 8 ∷ 0 ∷ 0 ∷ 0 ∷ 0 ∷ 0 ∷ 0 ∷ [])
     × (takenTicks busyEvents ready ≡ 90)
     × (updatesMade 1 busyEvents ready ≡ 3)
     × (fanOf 1 (afterAll busyEvents ready) .drive ≡ 201)

@@ -3,8 +3,8 @@ use crate::show;
 use eventlog::Reading;
 use eventlog::Writing;
 
-// Stands for the end of the log; none of document 01's numbers.
-const END: u8 = 9;
+// Stands for the end of the log; none of the numbers given back.
+const END: u8 = 255;
 
 // The most bytes that a log of `vary` has.
 const SPACE: usize = 64;
@@ -22,33 +22,46 @@ pub fn at_place(case: &[u8]) {
     show::reading(log, place);
 }
 
-// The number of every prefix, the empty one first.
+// What reading gave but for the event: its number, or END, and the place of a fault, else 0.
+struct Gave {
+    number: u8,
+    fault: usize,
+}
+
+// What is given of every prefix, the empty one first.
 pub fn cut(log: &[u8]) {
     show::titled(b"cut ", log);
     show::text(b":");
     for len in 0..=log.len() {
-        show_number(number_at_start(&log[0..len]));
+        show::text(b" ");
+        show_given(at_start(&log[0..len]));
     }
 }
 
-// A reading's number, or END.
-fn number_at_start(log: &[u8]) -> u8 {
+fn at_start(log: &[u8]) -> Gave {
     match eventlog::read(log, 0) {
-        Reading::Record(_, _) => 0,
-        Reading::End => END,
-        Reading::Refused(refusal) => refusal,
+        Reading::Record(_, _) => Gave {
+            number: 0,
+            fault: 0,
+        },
+        Reading::End => Gave {
+            number: END,
+            fault: 0,
+        },
+        Reading::Refused { number, fault } => Gave { number, fault },
     }
 }
 
-fn show_number(number: u8) {
-    if number == END {
-        show::text(b" end");
-    } else {
-        show::named(b" ", number as u64);
+fn show_given(gave: Gave) {
+    let number = gave.number;
+    match number {
+        0 => show::text(b"0"),
+        END => show::text(b"end"),
+        _ => show::refusal(number, gave.fault),
     }
 }
 
-// Which byte, then the log: 'value=number' where the number is not that of the value before.
+// Which byte, then the log: 'value=number@place' where number or place are not those of the value before.
 pub fn vary(case: &[u8]) {
     if case.len() == 0 {
         return;
@@ -69,19 +82,19 @@ fn vary_byte(log: &mut [u8], at: usize) {
     if log.len() <= at {
         return;
     }
-    let mut last = END;
+    let mut last = Gave {
+        number: END,
+        fault: 0,
+    };
     for value in 0..=255u8 {
         log[at] = value;
-        let number = number_at_start(log);
-        show_change(value, number, last);
-        last = number;
-    }
-}
-
-fn show_change(value: u8, number: u8, last: u8) {
-    if number != last {
-        show::named(b" ", value as u64);
-        show::named(b"=", number as u64);
+        let gave = at_start(log);
+        if gave.number != last.number || gave.fault != last.fault {
+            show::named(b" ", value as u64);
+            show::text(b"=");
+            show_given(gave);
+        }
+        last = gave;
     }
 }
 

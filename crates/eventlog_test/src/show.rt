@@ -83,6 +83,12 @@ pub fn event(event: Event, log: &[u8]) {
     }
 }
 
+// A refusal of reading: its number and the place of the first faulty byte.
+pub fn refusal(given: u8, fault: usize) {
+    number(given as u64);
+    named(b"@", fault as u64);
+}
+
 // What reading at a place gives: 0 with the place after the record and its event, 'end', or the refusal.
 pub fn reading(log: &[u8], place: usize) {
     match eventlog::read(log, place) {
@@ -92,6 +98,9 @@ pub fn reading(log: &[u8], place: usize) {
             event(found, log);
         }
         Reading::End => text(b"end"),
-        Reading::Refused(refusal) => number(refusal as u64),
+        Reading::Refused {
+            number: given,
+            fault,
+        } => refusal(given, fault),
     }
 }

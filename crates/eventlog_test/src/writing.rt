@@ -8,6 +8,9 @@ const FILL: u8 = 0xEE;
 
 const SPACE: usize = 40;
 
+// Stands for the kind of a transfer that reads; none of the kinds.
+const READS: u8 = 13;
+
 // How many bytes of a case stand before the log: the room, then the event's six.
 const HEAD: usize = 7;
 
@@ -33,7 +36,7 @@ fn word(low: u8, high: u8) -> u16 {
     low as u16 + 256 * (high as u16)
 }
 
-// Kind (6: a transfer that reads), a small field, a count in two bytes, a place, a length.
+// Kind (READS: a transfer that reads), a small field, a count in two bytes, a place, a length.
 fn event_of(fields: &[u8]) -> Event {
     if fields.len() < 6 {
         return Event::Ticks(0);
@@ -51,7 +54,7 @@ fn event_of(fields: &[u8]) -> Event {
             drive: fields[2],
         },
         kind => Event::Transfer {
-            reads: kind == 6,
+            reads: kind == READS,
             address: small,
             place,
             len,

@@ -6,10 +6,10 @@ use Rattle.eventlog_test.proofs.reading.cut.Statement.{statement}
 use Rattle.eventlog_test.proofs.reading.cut.Tie as tie
 
 abbrev Inv-loop : tie.InvT-loop
-Inv-loop log len₀ len-end len = (len ≤ len-end) × (len-end ≤ length log)
+Inv-loop log len₀ t5 len-end len = (len ≤ len-end) × (len-end ≤ length log)
 
 abbrev μ-loop : tie.MeasureT-loop
-μ-loop log len₀ len-end len = len-end - len
+μ-loop log len₀ t5 len-end len = len-end - len
 
 slice-aggregate-titled : tie.Need-slice-aggregate-titled Inv-loop μ-loop
 slice-aggregate-titled c = search needs
@@ -26,20 +26,26 @@ text-requires c κs = search needs
 loop-holds : tie.Need-loop-holds Inv-loop μ-loop
 loop-holds c = search needs
 
-sub-number-at-start : tie.Need-sub-number-at-start Inv-loop μ-loop
-sub-number-at-start c = search needs
+slice-aggregate-text-2 : tie.Need-slice-aggregate-text-2 Inv-loop μ-loop
+slice-aggregate-text-2 c = search needs
 
-part-number-at-start-start : tie.Need-part-number-at-start-start Inv-loop μ-loop
-part-number-at-start-start c = search needs
+text-requires-2 : tie.Need-text-requires-2 Inv-loop μ-loop
+text-requires-2 c κs = search needs
 
-part-number-at-start-end : tie.Need-part-number-at-start-end Inv-loop μ-loop
-part-number-at-start-end c = search needs
+sub-at-start : tie.Need-sub-at-start Inv-loop μ-loop
+sub-at-start c = search needs
 
-number-at-start-requires : tie.Need-number-at-start-requires Inv-loop μ-loop
-number-at-start-requires c κs = search needs
+part-at-start-start : tie.Need-part-at-start-start Inv-loop μ-loop
+part-at-start-start c = search needs
 
-show-number-requires : tie.Need-show-number-requires Inv-loop μ-loop
-show-number-requires c κs = search needs
+part-at-start-end : tie.Need-part-at-start-end Inv-loop μ-loop
+part-at-start-end c = search needs
+
+at-start-requires : tie.Need-at-start-requires Inv-loop μ-loop
+at-start-requires c κs = search needs
+
+show-given-requires : tie.Need-show-given-requires Inv-loop μ-loop
+show-given-requires c κs = search needs
 
 add-len : tie.Need-add-len Inv-loop μ-loop
 add-len c = search needs
@@ -67,11 +73,13 @@ cut-spec =
     slice-aggregate-text
     text-requires
     loop-holds
-    sub-number-at-start
-    part-number-at-start-start
-    part-number-at-start-end
-    number-at-start-requires
-    show-number-requires
+    slice-aggregate-text-2
+    text-requires-2
+    sub-at-start
+    part-at-start-start
+    part-at-start-end
+    at-start-requires
+    show-given-requires
     add-len
     loop-less
     loop-again

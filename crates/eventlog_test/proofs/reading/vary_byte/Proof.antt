@@ -1,16 +1,16 @@
 -- `reading::vary_byte` is safe and ends. A store keeps the log's length, so the index stays within it.
 use mathlib.Core.Path.{_≡_}
 use Prim.Native.Nat.{_≤_, _<_, _-_}
-use borrow.Author.Needs.{needs}
 use lib.ListN.{length}
+use borrow.Author.Needs.{needs}
 use Rattle.eventlog_test.proofs.reading.vary_byte.Statement.{statement}
 use Rattle.eventlog_test.proofs.reading.vary_byte.Tie as tie
 
 abbrev Inv-loop : tie.InvT-loop
-Inv-loop log₀ at last₀ value₀ log last value = (value ≤ 255) × (at < length log) × (length log ≡ length log₀)
+Inv-loop log₀ at last₀ value₀ t6 t7 log last value = (value ≤ 255) × (at < length log) × (length log ≡ length log₀)
 
 abbrev μ-loop : tie.MeasureT-loop
-μ-loop log₀ at last₀ value₀ log last value = 255 - value
+μ-loop log₀ at last₀ value₀ t6 t7 log last value = 255 - value
 
 returns : tie.Need-returns Inv-loop μ-loop
 returns c = search needs
@@ -21,11 +21,26 @@ loop-holds c = search needs
 slice-write-log : tie.Need-slice-write-log Inv-loop μ-loop
 slice-write-log c = search needs
 
-number-at-start-requires : tie.Need-number-at-start-requires Inv-loop μ-loop
-number-at-start-requires c κs = search needs
+at-start-requires : tie.Need-at-start-requires Inv-loop μ-loop
+at-start-requires c κs = search needs
 
-show-change-requires : tie.Need-show-change-requires Inv-loop μ-loop
-show-change-requires c κs = search needs
+slice-aggregate-named : tie.Need-slice-aggregate-named Inv-loop μ-loop
+slice-aggregate-named c = search needs
+
+cast-named : tie.Need-cast-named Inv-loop μ-loop
+cast-named c = search needs
+
+named-requires : tie.Need-named-requires Inv-loop μ-loop
+named-requires c κs = search needs
+
+slice-aggregate-text : tie.Need-slice-aggregate-text Inv-loop μ-loop
+slice-aggregate-text c = search needs
+
+text-requires : tie.Need-text-requires Inv-loop μ-loop
+text-requires c κs = search needs
+
+show-given-requires : tie.Need-show-given-requires Inv-loop μ-loop
+show-given-requires c κs = search needs
 
 add-value : tie.Need-add-value Inv-loop μ-loop
 add-value c = search needs
@@ -57,8 +72,13 @@ vary-byte-spec =
     returns
     loop-holds
     slice-write-log
-    number-at-start-requires
-    show-change-requires
+    at-start-requires
+    slice-aggregate-named
+    cast-named
+    named-requires
+    slice-aggregate-text
+    text-requires
+    show-given-requires
     add-value
     loop-less
     loop-again
