@@ -6,16 +6,9 @@
  * What is lent to one call does not overlap, numbers included; an empty slice overlaps nothing. Of a lent buffer only the bytes that are
  * said to be laid change. No function keeps a pointer, allocates, or has a state of its own: calls may run beside each other.
  *
- * Numbers given back:
- *   0  taken
- *   1  the log ends inside a record
- *   2  a present mark byte is wrong
- *   3  unknown kind
- *   4  the length byte is not allowed for the kind
- *   5  a field out of range, or a read transfer whose length byte is not 2
- *   6  event other than power-on before any power-on
- *   7  transfer to another address
- *   8  lent buffer too short for the reply or record
+ * Names begin with what they are of, the log (eventlog_) or the device (emc2305_); constants and the rest with COBBLEHARD_ or cobblehard_.
+ * A program that has such a name itself can change it in its copy of the library, by objcopy --redefine-sym OLD=NEW libcobblehard.a, and
+ * says #define OLD NEW before it includes this file.
  */
 #ifndef COBBLEHARD_H
 #define COBBLEHARD_H
@@ -27,16 +20,77 @@
 extern "C" {
 #endif
 
+/* Goes up whenever a function, a constant or what one answers changes. Version 1 had no macro, and gave 5 for what is 5, 9, 10 and 11 now. */
+#define COBBLEHARD_VERSION 2
+
+/* Numbers given back. A run walks on after 6 and 7, and no function here returns them. */
+enum cobblehard_number {
+    COBBLEHARD_TAKEN = 0,          /* taken */
+    COBBLEHARD_CUT_SHORT = 1,      /* the log ends inside a record */
+    COBBLEHARD_WRONG_MARK = 2,     /* a mark byte is wrong: of as many as are there */
+    COBBLEHARD_UNKNOWN_KIND = 3,   /* unknown kind */
+    COBBLEHARD_WRONG_LENGTH = 4,   /* length not allowed for the kind */
+    COBBLEHARD_WRONG_FAN = 5,      /* no such fan: outside 1..5 */
+    COBBLEHARD_NO_POWER = 6,       /* event before any power-on: any but a power-on */
+    COBBLEHARD_ELSEWHERE = 7,      /* transfer to another address */
+    COBBLEHARD_NO_ROOM = 8,        /* buffer too short: for the reply or record */
+    COBBLEHARD_WRONG_COUNT = 9,    /* count out of range: of a tach sample, above 8191 */
+    COBBLEHARD_WRONG_ADDRESS = 10, /* address out of range: above 127 */
+    COBBLEHARD_WRONG_BYTES = 11    /* length or clocked number of a transfer out of range: a read's length byte is not 2, or its clocked
+                                      number outside 1..32; of a transfer to be written also more than 32 bytes */
+};
+
+/* The kinds of events. */
+enum cobblehard_kind {
+    COBBLEHARD_END = 0, /* no event: the end of the log */
+    COBBLEHARD_POWER_ON = 1,
+    COBBLEHARD_TICKS = 2,
+    COBBLEHARD_SAMPLE = 3,
+    COBBLEHARD_WISH = 4,
+    COBBLEHARD_TRANSFER = 5
+};
+
+/* The directions of a transfer. */
+enum cobblehard_direction {
+    COBBLEHARD_WRITES = 0,
+    COBBLEHARD_READS = 1
+};
+
+/* What eventlog_fault answers where there is no fault. */
+#define COBBLEHARD_NO_FAULT UINT64_MAX
+
+/* A number in words, in a string that lives as long as the program. The words are for people and promise nothing: go by the number.
+ * It is here and not in the library, which is lent slices and gives numbers, and has no data of its own to point to. */
+static inline const char *cobblehard_words(uint8_t number)
+{
+    switch (number) {
+    case COBBLEHARD_TAKEN: return "taken";
+    case COBBLEHARD_CUT_SHORT: return "the log ends inside a record";
+    case COBBLEHARD_WRONG_MARK: return "a mark byte is wrong";
+    case COBBLEHARD_UNKNOWN_KIND: return "unknown kind";
+    case COBBLEHARD_WRONG_LENGTH: return "length not allowed for the kind";
+    case COBBLEHARD_WRONG_FAN: return "no such fan";
+    case COBBLEHARD_NO_POWER: return "event before any power-on";
+    case COBBLEHARD_ELSEWHERE: return "transfer to another address";
+    case COBBLEHARD_NO_ROOM: return "buffer too short";
+    case COBBLEHARD_WRONG_COUNT: return "count out of range";
+    case COBBLEHARD_WRONG_ADDRESS: return "address out of range";
+    case COBBLEHARD_WRONG_BYTES: return "length or clocked number of a transfer out of range";
+    default: return "no such number";
+    }
+}
+
 /* Runs an unpowered chip over a whole log.
  *
  * The replies of the read transfers are laid in `replies`, one after the other from its front; the bytes past them stay.
  * A read transfer takes 6 bytes of a log and has a reply of at most 32, so that log_length / 6 * 32 bytes are always enough.
  *
- * The run walks on after 6 and 7, which it does not return. It stops at 1 to 5 and 8 and keeps the replies before the stop; of a reply that
- * has no room nothing is laid. Returns the last number, 0 at the end of the log, and sets
+ * The run walks on after 6 and 7, which it does not return. It stops at 1 to 5 and 8 to 11 and keeps the replies before the stop; of a reply
+ * that has no room nothing is laid. Returns the last number, 0 at the end of the log, and sets
  *   *place        the place in the log of the stopping record, or the end;
  *   *records      how many records were walked, those with 6 or 7 included and the stopping one not;
  *   *reply_bytes  how many bytes of `replies` were laid.
+ * After a stop at 1 to 5 or 9 to 11, eventlog_fault(log, log_length, *place) tells the byte.
  */
 uint8_t emc2305_run(const uint8_t *log, size_t log_length, uint8_t *replies, size_t replies_length,
                     uint64_t *place, uint64_t *records, uint64_t *reply_bytes);
@@ -64,15 +118,38 @@ uint64_t emc2305_run_reply_bytes(const uint8_t *log, size_t log_length, uint8_t 
  * Returns 0 and sets all six numbers: the event's kind, unit and value; *bytes_place and *bytes_length, where its bytes lie in the log;
  * *next, the place after the record. With log + *bytes_place and *bytes_length for its bytes, eventlog_write makes the same record again.
  * At the exact end of the log it returns 0 with *kind 0, *next the place, and 0 in the others.
- * Returns 1 to 5 for a refusal, 1 also for a place past the end, and leaves all six as they were.
+ * Returns 1 to 5 or 9 to 11 for a refusal, 1 also for a place past the end, and leaves all six as they were. Of faults the first in this
+ * order decides: 2; 1 for fewer than four bytes; 3; 4; 1 for a payload cut short; then the field whose byte comes first.
  */
 uint8_t eventlog_read(const uint8_t *log, size_t log_length, uint64_t place, uint8_t *kind, uint8_t *unit, uint16_t *value,
                       uint64_t *bytes_place, uint64_t *bytes_length, uint64_t *next);
 
+/* The place in the log of the first faulty byte of what stands at a place, by the number that eventlog_read returns for it:
+ *
+ *   1   where the first missing byte would stand: the end of the log, or the place itself where that is past the end
+ *   2   the first wrong mark byte
+ *   3   the kind byte
+ *   4   the length byte
+ *   5   the fan byte
+ *   9   the count's low byte
+ *   10  the address byte
+ *   11  the length byte of a read where that is not 2, else the byte with the clocked number
+ *
+ * Where there is no fault, at a record that eventlog_read takes and at the end of the log, it returns COBBLEHARD_NO_FAULT. For the place
+ * UINT64_MAX, which is past the end of any log, the answer is that number too: whether there is a fault, eventlog_read tells.
+ */
+uint64_t eventlog_fault(const uint8_t *log, size_t log_length, uint64_t place);
+
 /* Writes the record of an event at the front of `out`; a record has at most 37 bytes.
  *
- * Returns 0 and sets *written to the record's length. Returns, in this order, 3 for a kind other than 1 to 5, 5 for a field out of range
- * or bytes that the kind does not allow, 8 where `out` is too short; then `out` and *written stay as they were.
+ * Returns 0 and sets *written to the record's length. Otherwise `out` and *written stay as they were, and it returns the first of these:
+ *   3   a kind other than 1 to 5
+ *   11  a transfer with more than 32 bytes, or a read with another number of bytes than one
+ *   10  an address above 127, or a direction above 1, which shares its byte
+ *   5   a fan outside 1..5
+ *   9   a count above 8191, or a wish's drive above 255
+ *   11  a clocked number outside 1..32
+ *   8   `out` is too short
  */
 uint8_t eventlog_write(uint8_t kind, uint8_t unit, uint16_t value, const uint8_t *bytes, size_t bytes_length, uint8_t *out,
                        size_t out_length, uint64_t *written);
