@@ -7,8 +7,8 @@
  * said to be laid change. No function keeps a pointer, allocates, or has a state of its own: calls may run beside each other.
  *
  * Names begin with what they are of, the log (eventlog_) or the device (emc2305_); constants and the rest with COBBLEHARD_ or cobblehard_.
- * A program that has such a name itself can change it in its copy of the library, by objcopy --redefine-sym OLD=NEW libcobblehard.a, and
- * says #define OLD NEW before it includes this file.
+ * A program that has such a name itself can change it in its copy of the library, by objcopy --redefine-sym OLD=NEW libcobblehard.a; it
+ * includes this file between #define OLD NEW and #undef OLD.
  */
 #ifndef COBBLEHARD_H
 #define COBBLEHARD_H
