@@ -25,6 +25,8 @@ extern "C" {
         next: *mut u64,
     ) -> u8;
 
+    pub fn eventlog_fault(log: *const u8, log_length: usize, place: u64) -> u64;
+
     pub fn eventlog_write(
         kind: u8,
         unit: u8,

@@ -1,6 +1,6 @@
 //! Events, and the records that they have in a log.
 use crate::c;
-use crate::refusal::Refusal;
+use crate::refusal::{Reason, Refusal};
 use std::iter::FusedIterator;
 
 /// The most bytes that a record has.
@@ -23,6 +23,7 @@ pub enum Event<'a> {
     Read { address: u8, count: u8 },
 }
 
+const END: u8 = 0;
 const POWER_ON: u8 = 1;
 const TICKS: u8 = 2;
 const SAMPLE: u8 = 3;
@@ -32,7 +33,8 @@ const TRANSFER: u8 = 5;
 const READS: u16 = 1;
 
 impl Event<'_> {
-    /// Lays the event's record at the front of `out` and gives its length. A refusal (5, then 8) leaves `out` as it was.
+    /// Lays the event's record at the front of `out` and gives its length. A refusal leaves `out` as it was: that of the field
+    /// which is out of range and comes first in the record (5, 9, 10 or 11), else 8.
     pub fn write_to(&self, out: &mut [u8]) -> Result<usize, Refusal> {
         match *self {
             Event::PowerOn { address } => write(POWER_ON, address, 0, &[], out),
@@ -68,7 +70,10 @@ fn write(kind: u8, unit: u8, value: u16, bytes: &[u8], out: &mut [u8]) -> Result
             &mut written,
         )
     };
-    Refusal::check(number).map(|()| written as usize)
+    match Reason::given(number) {
+        None => Ok(written as usize),
+        Some(reason) => Err(Refusal::new(reason, None)),
+    }
 }
 
 /// Reads the record at a place of a log: its event, and the place after it. None at the exact end of the log.
@@ -89,9 +94,17 @@ pub fn read(log: &[u8], place: usize) -> Result<Option<(Event<'_>, usize)>, Refu
             &mut next,
         )
     };
-    Refusal::check(number)?;
+    if let Some(reason) = Reason::given(number) {
+        return Err(refused(reason, log, place));
+    }
     let bytes = &log[bytes_place as usize..][..bytes_length as usize];
-    let event = match kind {
+    Ok(event(kind, unit, value, bytes).map(|event| (event, next as usize)))
+}
+
+/// The event with these numbers; none for the end of the log.
+fn event(kind: u8, unit: u8, value: u16, bytes: &[u8]) -> Option<Event<'_>> {
+    Some(match kind {
+        END => return None,
         POWER_ON => Event::PowerOn { address: unit },
         TICKS => Event::Ticks { count: value },
         SAMPLE => Event::Sample {
@@ -107,10 +120,15 @@ pub fn read(log: &[u8], place: usize) -> Result<Option<(Event<'_>, usize)>, Refu
             count: bytes[0],
         },
         TRANSFER => Event::Write { address: unit, bytes },
-        0 => return Ok(None),
         _ => panic!("libcobblehard gave the kind {kind}"),
-    };
-    Ok(Some((event, next as usize)))
+    })
+}
+
+/// The refusal of what stands at a place of a log and cannot be read.
+pub(crate) fn refused(reason: Reason, log: &[u8], place: usize) -> Refusal {
+    // SAFETY: the slice is whole.
+    let fault = unsafe { c::eventlog_fault(log.as_ptr(), log.len(), place as u64) };
+    Refusal::new(reason, Some(fault as usize))
 }
 
 /// The records of a log, each with its place. A refusal is the last: nothing tells where a next record would begin.

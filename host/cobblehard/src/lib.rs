@@ -28,5 +28,5 @@ mod refusal;
 mod run;
 
 pub use event::{read, records, Event, Records, LONGEST_RECORD};
-pub use refusal::Refusal;
+pub use refusal::{Reason, Refusal};
 pub use run::{replies_room, run, run_into, Run};

@@ -1,60 +1,118 @@
-//! The numbers that stand for a refusal.
+//! What a refusal says: its number, its words, and where the fault is.
 use std::error::Error;
 use std::fmt;
 
-/// Why an event, a record or a run was refused. `as u8` gives its number.
+/// Why an event, a record or a run was refused.
 #[derive(Clone, Copy, Debug, PartialEq, Eq, Hash)]
 #[repr(u8)]
-pub enum Refusal {
+pub enum Reason {
     EndsInsideRecord = 1,
     WrongMark = 2,
     UnknownKind = 3,
     LengthNotAllowed = 4,
-    OutOfRange = 5,
+    /// A fan outside 1..=5.
+    WrongFan = 5,
     NoPower = 6,
     OtherAddress = 7,
     NoRoom = 8,
+    /// A tach count above 8191.
+    WrongCount = 9,
+    /// A bus address above 127.
+    WrongAddress = 10,
+    /// A read whose length byte is not 2, a clocked number outside 1..=32, or more than 32 bytes to be written.
+    WrongBytes = 11,
+}
+
+impl Reason {
+    const ALL: [Reason; 11] = [
+        Reason::EndsInsideRecord,
+        Reason::WrongMark,
+        Reason::UnknownKind,
+        Reason::LengthNotAllowed,
+        Reason::WrongFan,
+        Reason::NoPower,
+        Reason::OtherAddress,
+        Reason::NoRoom,
+        Reason::WrongCount,
+        Reason::WrongAddress,
+        Reason::WrongBytes,
+    ];
+
+    /// The reason with this number; none for 0, which stands for taken, and for those past 11.
+    pub fn of_number(number: u8) -> Option<Reason> {
+        Reason::ALL.get(usize::from(number).checked_sub(1)?).copied()
+    }
+
+    pub fn number(self) -> u8 {
+        self as u8
+    }
+
+    /// For people; include/cobblehard.h has the same.
+    pub fn words(self) -> &'static str {
+        match self {
+            Reason::EndsInsideRecord => "the log ends inside a record",
+            Reason::WrongMark => "a mark byte is wrong",
+            Reason::UnknownKind => "unknown kind",
+            Reason::LengthNotAllowed => "length not allowed for the kind",
+            Reason::WrongFan => "no such fan",
+            Reason::NoPower => "event before any power-on",
+            Reason::OtherAddress => "transfer to another address",
+            Reason::NoRoom => "buffer too short",
+            Reason::WrongCount => "count out of range",
+            Reason::WrongAddress => "address out of range",
+            Reason::WrongBytes => "length or clocked number of a transfer out of range",
+        }
+    }
+
+    /// What a number that the library gave says; none for 0. It gives none past 11: that is proved of it.
+    pub(crate) fn given(number: u8) -> Option<Reason> {
+        let reason = Reason::of_number(number);
+        assert!(
+            number == 0 || reason.is_some(),
+            "libcobblehard gave the number {number}"
+        );
+        reason
+    }
+}
+
+/// A refusal: why and, where a record of a log could not be read, at which byte.
+#[derive(Clone, Copy, Debug, PartialEq, Eq, Hash)]
+pub struct Refusal {
+    reason: Reason,
+    place: Option<usize>,
 }
 
 impl Refusal {
-    const ALL: [Refusal; 8] = [
-        Refusal::EndsInsideRecord,
-        Refusal::WrongMark,
-        Refusal::UnknownKind,
-        Refusal::LengthNotAllowed,
-        Refusal::OutOfRange,
-        Refusal::NoPower,
-        Refusal::OtherAddress,
-        Refusal::NoRoom,
-    ];
-
-    /// The refusal with this number; none for 0, which stands for taken, and for those past 8.
-    pub fn of_number(number: u8) -> Option<Refusal> {
-        Refusal::ALL.get(usize::from(number).checked_sub(1)?).copied()
+    pub(crate) fn new(reason: Reason, place: Option<usize>) -> Refusal {
+        Refusal { reason, place }
     }
 
-    /// What a number that the library gave says. It gives none past 8: that is proved of it.
-    pub(crate) fn check(number: u8) -> Result<(), Refusal> {
-        match (number, Refusal::of_number(number)) {
-            (0, _) => Ok(()),
-            (_, Some(refusal)) => Err(refusal),
-            (_, None) => panic!("libcobblehard gave the number {number}"),
-        }
+    pub fn reason(&self) -> Reason {
+        self.reason
+    }
+
+    pub fn number(&self) -> u8 {
+        self.reason.number()
+    }
+
+    pub fn words(&self) -> &'static str {
+        self.reason.words()
+    }
+
+    /// The place in the log of the first faulty byte; of a log that ends inside a record, where the first missing byte would
+    /// stand. None where no log was read, as in writing, and where a run had no room.
+    pub fn place(&self) -> Option<usize> {
+        self.place
     }
 }
 
 impl fmt::Display for Refusal {
     fn fmt(&self, f: &mut fmt::Formatter<'_>) -> fmt::Result {
-        f.write_str(match self {
-            Refusal::EndsInsideRecord => "the log ends inside a record",
-            Refusal::WrongMark => "a mark byte is wrong",
-            Refusal::UnknownKind => "unknown kind",
-            Refusal::LengthNotAllowed => "length not allowed for the kind",
-            Refusal::OutOfRange => "a field out of range",
-            Refusal::NoPower => "event before any power-on",
-            Refusal::OtherAddress => "transfer to another address",
-            Refusal::NoRoom => "buffer too short",
-        })
+        f.write_str(self.words())?;
+        match self.place {
+            Some(place) => write!(f, " at byte {place}"),
+            None => Ok(()),
+        }
     }
 }
 

@@ -1,11 +1,12 @@
 //! The run over a whole log.
 use crate::c;
-use crate::refusal::Refusal;
+use crate::event::refused;
+use crate::refusal::{Reason, Refusal};
 
 /// What a run gave.
 #[derive(Clone, Copy, Debug, PartialEq, Eq)]
 pub struct Run {
-    /// The refusal that stopped it; none where it came to the end of the log.
+    /// The refusal that stopped it, with the faulty byte where a record could not be read; none at the end of the log.
     pub stop: Option<Refusal>,
     /// The place in the log of the stopping record, or the end.
     pub place: usize,
@@ -18,7 +19,7 @@ pub struct Run {
 impl Run {
     /// The last number: 0 at the end of the log.
     pub fn number(&self) -> u8 {
-        self.stop.map_or(0, |refusal| refusal as u8)
+        self.stop.map_or(0, |refusal| refusal.number())
     }
 }
 
@@ -53,10 +54,19 @@ pub fn run_into(log: &[u8], replies: &mut [u8]) -> Run {
             &mut reply_bytes,
         )
     };
+    let place = place as usize;
     Run {
-        stop: Refusal::check(number).err(),
-        place: place as usize,
+        stop: Reason::given(number).map(|reason| stop(reason, log, place)),
+        place,
         records: records as usize,
         reply_bytes: reply_bytes as usize,
+    }
+}
+
+/// A run that has no room stops at a record that can be read; any other stops at one that cannot.
+fn stop(reason: Reason, log: &[u8], place: usize) -> Refusal {
+    match reason {
+        Reason::NoRoom => Refusal::new(reason, None),
+        _ => refused(reason, log, place),
     }
 }

@@ -1,6 +1,8 @@
 //! The safe wrapper, by document 01's own figures.
-use cobblehard::{read, records, run, run_into, Event, Refusal, Run, LONGEST_RECORD};
-use std::collections::HashSet;
+use cobblehard::{read, records, run, run_into, Event, Reason, Refusal, Run, LONGEST_RECORD};
+use std::collections::BTreeSet;
+use std::error::Error;
+use std::fmt::Debug;
 
 /// Document 01's log.
 const LOG: [u8; 18] = [
@@ -20,16 +22,115 @@ const EVENTS: [Event<'static>; 3] = [
     },
 ];
 
-const REFUSALS: [Refusal; 8] = [
-    Refusal::EndsInsideRecord,
-    Refusal::WrongMark,
-    Refusal::UnknownKind,
-    Refusal::LengthNotAllowed,
-    Refusal::OutOfRange,
-    Refusal::NoPower,
-    Refusal::OtherAddress,
-    Refusal::NoRoom,
+const HEADER: &str = include_str!("../../../include/cobblehard.h");
+
+/// Every number from 0 on: its name in the header, and its words.
+const NUMBERS: [(&str, &str); 12] = [
+    ("COBBLEHARD_TAKEN", "taken"),
+    ("COBBLEHARD_CUT_SHORT", "the log ends inside a record"),
+    ("COBBLEHARD_WRONG_MARK", "a mark byte is wrong"),
+    ("COBBLEHARD_UNKNOWN_KIND", "unknown kind"),
+    ("COBBLEHARD_WRONG_LENGTH", "length not allowed for the kind"),
+    ("COBBLEHARD_WRONG_FAN", "no such fan"),
+    ("COBBLEHARD_NO_POWER", "event before any power-on"),
+    ("COBBLEHARD_ELSEWHERE", "transfer to another address"),
+    ("COBBLEHARD_NO_ROOM", "buffer too short"),
+    ("COBBLEHARD_WRONG_COUNT", "count out of range"),
+    ("COBBLEHARD_WRONG_ADDRESS", "address out of range"),
+    (
+        "COBBLEHARD_WRONG_BYTES",
+        "length or clocked number of a transfer out of range",
+    ),
 ];
+
+/// Those from 1 on.
+const REASONS: [Reason; 11] = [
+    Reason::EndsInsideRecord,
+    Reason::WrongMark,
+    Reason::UnknownKind,
+    Reason::LengthNotAllowed,
+    Reason::WrongFan,
+    Reason::NoPower,
+    Reason::OtherAddress,
+    Reason::NoRoom,
+    Reason::WrongCount,
+    Reason::WrongAddress,
+    Reason::WrongBytes,
+];
+
+/// What cannot be read: its number, and the place of the first faulty byte. Where there are two faults, reading's order
+/// decides and, of fields, the earlier byte: the other fault is named behind "before".
+const FAULTS: [(&[u8], u8, usize); 41] = [
+    // 1, where the first missing byte would stand
+    (&[0x9C], 1, 1),
+    (&[0x9C, 0x46], 1, 2),
+    (&[0x9C, 0x46, 0x05], 1, 3),
+    (&[0x9C, 0x46, 0x09], 1, 3), // before the kind
+    (&[0x9C, 0x46, 0x01, 0x01], 1, 4),
+    (&[0x9C, 0x46, 0x05, 0x14, 0x58], 1, 5),
+    (&[0x9C, 0x46, 0x03, 0x03, 0x00, 0x00], 1, 6), // before the fan
+    (&[0x9C, 0x46, 0x05, 0x03, 0x59, 0x00], 1, 6), // before a read's length byte
+    // 2, the first wrong mark byte
+    (&[0x9D], 2, 0),
+    (&[0x9C, 0x47], 2, 1),
+    (&[0x9D, 0x47, 0x01, 0x01, 0x2C], 2, 0),
+    (&[0x46, 0x9C, 0x01, 0x01, 0x2C], 2, 0),
+    (&[0x9C, 0x00, 0x06, 0x01, 0x80], 2, 1), // before the kind
+    // 3, the kind byte
+    (&[0x9C, 0x46, 0x00, 0x01, 0x2C], 3, 2),
+    (&[0x9C, 0x46, 0x06, 0x01], 3, 2), // before the payload that is short
+    (&[0x9C, 0x46, 0xFF, 0x00], 3, 2), // before the length byte
+    // 4, the length byte
+    (&[0x9C, 0x46, 0x02, 0x09], 4, 3),             // before the payload that is short
+    (&[0x9C, 0x46, 0x01, 0x02, 0x80, 0x00], 4, 3), // before the address
+    (&[0x9C, 0x46, 0x03, 0x02, 0x00, 0x00], 4, 3), // before the fan
+    (&[0x9C, 0x46, 0x04, 0x00], 4, 3),
+    (&[0x9C, 0x46, 0x05, 0x00], 4, 3),
+    (&[0x9C, 0x46, 0x05, 0x22, 0x59], 4, 3),
+    // 5, the fan byte
+    (&[0x9C, 0x46, 0x03, 0x03, 0x00, 0xFF, 0x1F], 5, 4),
+    (&[0x9C, 0x46, 0x03, 0x03, 0x06, 0x00, 0x00], 5, 4),
+    (&[0x9C, 0x46, 0x03, 0x03, 0x00, 0x00, 0x20], 5, 4), // before the count
+    (&[0x9C, 0x46, 0x04, 0x02, 0x00, 0xFF], 5, 4),
+    (&[0x9C, 0x46, 0x04, 0x02, 0x06, 0x00], 5, 4),
+    // 9, the count's low byte
+    (&[0x9C, 0x46, 0x03, 0x03, 0x01, 0x00, 0x20], 9, 5),
+    (&[0x9C, 0x46, 0x03, 0x03, 0x05, 0xFF, 0xFF], 9, 5),
+    // 10, the address byte
+    (&[0x9C, 0x46, 0x01, 0x01, 0x80], 10, 4),
+    (&[0x9C, 0x46, 0x01, 0x01, 0xFF], 10, 4),
+    // 11, the length byte of a read where that is not 2
+    (&[0x9C, 0x46, 0x05, 0x01, 0x59], 11, 3),
+    (&[0x9C, 0x46, 0x05, 0x03, 0x59, 0x01, 0x01], 11, 3),
+    (&[0x9C, 0x46, 0x05, 0x03, 0x59, 0x00, 0x00], 11, 3), // before the clocked number
+    (&[0x9C, 0x46, 0x05, 0x03, 0xFF, 0x21, 0x01], 11, 3),
+    (&LONGEST_READ, 11, 3),
+    // 11, else the byte with the clocked number
+    (&[0x9C, 0x46, 0x05, 0x02, 0x59, 0x00], 11, 5),
+    (&[0x9C, 0x46, 0x05, 0x02, 0x59, 0x21], 11, 5),
+    (&[0x9C, 0x46, 0x05, 0x02, 0x01, 0x00], 11, 5),
+    (&[0x9C, 0x46, 0x05, 0x02, 0xFF, 0x80], 11, 5),
+    (&[0x9C, 0x46, 0x05, 0x02, 0xFF, 0xFF], 11, 5),
+];
+
+/// A transfer's length byte at its most, with the direction of a read.
+const LONGEST_READ: [u8; LONGEST_RECORD] = {
+    let mut record = [0x01; LONGEST_RECORD];
+    (record[0], record[1], record[2], record[3], record[4]) = (0x9C, 0x46, 0x05, 0x21, 0x59);
+    record
+};
+
+/// Number and place of a refusal.
+fn refused<T: Debug>(answer: Result<T, Refusal>) -> (u8, Option<usize>) {
+    let refusal = answer.expect_err("a refusal");
+    (refusal.number(), refusal.place())
+}
+
+/// The same of a run's, then the place of its record, the records walked and the reply bytes.
+fn stopped(outcome: Run) -> (u8, Option<usize>, [usize; 3]) {
+    let (number, fault) = refused(outcome.stop.map_or(Ok(()), Err));
+    (number, fault, [outcome.place, outcome.records, outcome.reply_bytes])
+}
 
 /// One event of each kind, at the ends of its fields, with its record.
 fn each_kind() -> [(Event<'static>, Vec<u8>); 7] {
@@ -115,15 +216,7 @@ fn a_run_walks_on_after_6_and_7() {
 #[test]
 fn a_run_without_room_stops() {
     let outcome = run_into(&LOG, &mut []);
-    assert_eq!(
-        outcome,
-        Run {
-            stop: Some(Refusal::NoRoom),
-            place: 12,
-            records: 2,
-            reply_bytes: 0
-        }
-    );
+    assert_eq!(stopped(outcome), (8, None, [12, 2, 0]));
     assert_eq!(outcome.number(), 8);
 }
 
@@ -132,15 +225,7 @@ fn a_refused_reply_and_what_is_past_a_reply_leave_the_buffer() {
     let two_reads = [&LOG[..], &[0x9C, 0x46, 0x05, 0x02, 0x59, 0x04]].concat();
     let mut replies = [0xAA; 4];
     let outcome = run_into(&two_reads, &mut replies);
-    assert_eq!(
-        outcome,
-        Run {
-            stop: Some(Refusal::NoRoom),
-            place: 18,
-            records: 3,
-            reply_bytes: 1
-        }
-    );
+    assert_eq!(stopped(outcome), (8, None, [18, 3, 1]));
     assert_eq!(replies, [0xFF, 0xAA, 0xAA, 0xAA]);
 }
 
@@ -154,25 +239,61 @@ fn the_records_of_a_log() {
 fn a_refusal_is_the_last_record() {
     let mut log = LOG;
     log[7] = 6;
-    let found: Vec<_> = records(&log).collect();
-    assert_eq!(found, [(0, Ok(EVENTS[0])), (5, Err(Refusal::UnknownKind))]);
+    let mut found = records(&log);
+    assert_eq!(found.next(), Some((0, Ok(EVENTS[0]))));
+    let (place, answer) = found.next().expect("the refused record");
+    assert_eq!((place, refused(answer)), (5, (3, Some(7))));
+    assert_eq!(found.next(), None);
 }
 
 #[test]
-fn records_that_cannot_be_read() {
-    assert_eq!(read(&[0x9C], 0), Err(Refusal::EndsInsideRecord));
-    assert_eq!(read(&[0x9D], 0), Err(Refusal::WrongMark));
-    assert_eq!(read(&[0x9C, 0x46, 0x02, 0x09], 0), Err(Refusal::LengthNotAllowed));
-    assert_eq!(read(&[0x9C, 0x46, 0x05, 0x14, 0x58], 0), Err(Refusal::EndsInsideRecord));
-    assert_eq!(read(&[0x9C, 0x46, 0x05, 0x02, 0x59, 0x21], 0), Err(Refusal::OutOfRange));
+fn what_cannot_be_read() {
+    for (bytes, number, fault) in FAULTS {
+        assert_eq!(refused(read(bytes, 0)), (number, Some(fault)), "{bytes:02X?}");
+    }
+    let numbers: BTreeSet<u8> = FAULTS.map(|(_, number, _)| number).into();
+    assert_eq!(numbers, BTreeSet::from([1, 2, 3, 4, 5, 9, 10, 11]));
+}
+
+#[test]
+fn what_cannot_be_read_behind_other_records() {
+    for (bytes, number, fault) in FAULTS {
+        let log = [&LOG[..], bytes].concat();
+        let expected = (number, Some(18 + fault));
+        assert_eq!(refused(read(&log, 18)), expected, "{bytes:02X?}");
+        let (place, answer) = records(&log).last().expect("the refused record");
+        assert_eq!((place, refused(answer)), (18, expected), "{bytes:02X?}");
+    }
+}
+
+#[test]
+fn what_stands_behind_a_fault_does_not_matter() {
+    for (bytes, number, fault) in FAULTS.into_iter().filter(|&(_, number, _)| number != 1) {
+        let log = [bytes, &LOG].concat();
+        assert_eq!(refused(read(&log, 0)), (number, Some(fault)), "{bytes:02X?}");
+    }
+}
+
+#[test]
+fn what_cannot_be_read_stops_a_run() {
+    for (bytes, number, fault) in FAULTS {
+        let (outcome, replies) = run(bytes);
+        assert_eq!(stopped(outcome), (number, Some(fault), [0, 0, 0]), "{bytes:02X?}");
+        assert_eq!((outcome.number(), replies), (number, vec![]), "{bytes:02X?}");
+        let (outcome, replies) = run(&[&LOG[..], bytes].concat());
+        assert_eq!(stopped(outcome), (number, Some(18 + fault), [18, 3, 1]), "{bytes:02X?}");
+        assert_eq!((outcome.number(), replies), (number, vec![0xFF]), "{bytes:02X?}");
+    }
 }
 
 #[test]
 fn the_end_and_past_it() {
     assert_eq!(read(&LOG, 12), Ok(Some((EVENTS[2], 18))));
     assert_eq!(read(&LOG, 18), Ok(None));
-    assert_eq!(read(&LOG, 19), Err(Refusal::EndsInsideRecord));
-    assert_eq!(read(&LOG, usize::MAX), Err(Refusal::EndsInsideRecord));
+    for place in [19, 20, 1 << 32, usize::MAX - 1, usize::MAX] {
+        assert_eq!(refused(read(&LOG, place)), (1, Some(place)));
+    }
+    assert_eq!(refused(read(&[], 1)), (1, Some(1)));
 }
 
 #[test]
@@ -194,34 +315,72 @@ fn the_longest_record() {
     );
 }
 
-#[test]
-fn out_of_range_is_refused_before_the_room() {
-    for event in [
-        Event::PowerOn { address: 128 },
-        Event::Sample { fan: 0, count: 0 },
-        Event::Sample { fan: 6, count: 0 },
-        Event::Sample { fan: 1, count: 8_192 },
-        Event::Wish { fan: 0, drive: 0 },
-        Event::Wish { fan: 6, drive: 0 },
+/// Events with fields out of range, and the number of that whose byte comes first in the record.
+const OUT_OF_RANGE: [(Event<'static>, u8); 16] = [
+    (Event::PowerOn { address: 128 }, 10),
+    (Event::Sample { fan: 0, count: 0 }, 5),
+    (Event::Sample { fan: 6, count: 0 }, 5),
+    (Event::Sample { fan: 1, count: 8_192 }, 9),
+    (Event::Sample { fan: 0, count: 8_192 }, 5),
+    (Event::Wish { fan: 0, drive: 0 }, 5),
+    (Event::Wish { fan: 6, drive: 0 }, 5),
+    (
         Event::Write {
             address: 128,
             bytes: &[],
         },
+        10,
+    ),
+    (
+        Event::Write {
+            address: 128,
+            bytes: &[0; 32],
+        },
+        10,
+    ),
+    (
         Event::Write {
             address: 0,
             bytes: &[0; 33],
         },
-        Event::Read { address: 128, count: 1 },
-        Event::Read { address: 0, count: 0 },
-        Event::Read { address: 0, count: 33 },
-    ] {
+        11,
+    ),
+    (
+        Event::Write {
+            address: 128,
+            bytes: &[0; 33],
+        },
+        11,
+    ),
+    (Event::Read { address: 128, count: 1 }, 10),
+    (Event::Read { address: 0, count: 0 }, 11),
+    (
+        Event::Read {
+            address: 127,
+            count: 33,
+        },
+        11,
+    ),
+    (Event::Read { address: 128, count: 0 }, 10),
+    (
+        Event::Read {
+            address: 255,
+            count: 255,
+        },
+        10,
+    ),
+];
+
+#[test]
+fn out_of_range_is_refused_before_the_room() {
+    for (event, number) in OUT_OF_RANGE {
         for room in [0, 64] {
             let mut out = vec![0xAA; room];
-            assert_eq!(event.write_to(&mut out), Err(Refusal::OutOfRange), "{event:?}");
+            assert_eq!(refused(event.write_to(&mut out)), (number, None), "{event:?}");
             assert_eq!(out, vec![0xAA; room], "{event:?}");
         }
         let mut log = LOG.to_vec();
-        assert_eq!(event.append_to(&mut log), Err(Refusal::OutOfRange), "{event:?}");
+        assert_eq!(refused(event.append_to(&mut log)), (number, None), "{event:?}");
         assert_eq!(log, LOG, "{event:?}");
     }
 }
@@ -230,7 +389,7 @@ fn out_of_range_is_refused_before_the_room() {
 fn a_record_without_room() {
     for (event, record) in each_kind() {
         let mut out = vec![0xAA; record.len() - 1];
-        assert_eq!(event.write_to(&mut out), Err(Refusal::NoRoom), "{event:?}");
+        assert_eq!(refused(event.write_to(&mut out)), (8, None), "{event:?}");
         assert_eq!(out, vec![0xAA; record.len() - 1], "{event:?}");
     }
 }
@@ -245,19 +404,59 @@ fn events_appended() {
 }
 
 #[test]
-fn refusals_and_their_numbers() {
-    for (refusal, number) in REFUSALS.into_iter().zip(1..) {
-        assert_eq!(refusal as u8, number);
-        assert_eq!(Refusal::of_number(number), Some(refusal));
+fn reasons_with_number_and_words() {
+    for ((number, (_, words)), reason) in (0..).zip(NUMBERS).skip(1).zip(REASONS) {
+        assert_eq!(Reason::of_number(number), Some(reason));
+        assert_eq!((reason.number(), reason.words()), (number, words));
     }
-    assert_eq!(Refusal::of_number(0), None);
-    assert_eq!(Refusal::of_number(9), None);
-    assert_eq!(Refusal::of_number(255), None);
+    assert_eq!(Reason::of_number(0), None);
+    assert!((12..=255).all(|number| Reason::of_number(number).is_none()));
 }
 
 #[test]
 fn refusals_in_words() {
-    let words: HashSet<String> = REFUSALS.iter().map(Refusal::to_string).collect();
-    assert_eq!(words.len(), REFUSALS.len());
-    assert!(words.iter().all(|text| !text.is_empty()));
+    let of_reading = read(&[0x9C, 0x46, 0x03, 0x03, 0x01, 0x00, 0x20], 0).unwrap_err();
+    assert_eq!(
+        (of_reading.reason(), of_reading.words()),
+        (Reason::WrongCount, "count out of range")
+    );
+    assert_eq!(of_reading.to_string(), "count out of range at byte 5");
+    let of_writing = Event::Wish { fan: 6, drive: 0 }.append_to(&mut Vec::new()).unwrap_err();
+    assert_eq!(
+        (of_writing.reason(), of_writing.words()),
+        (Reason::WrongFan, "no such fan")
+    );
+    assert_eq!(of_writing.to_string(), "no such fan");
+    let error: Box<dyn Error + Send + Sync> = Box::new(run_into(&LOG, &mut []).stop.unwrap());
+    assert_eq!(error.to_string(), "buffer too short");
+}
+
+/// The lines of the header between one that begins so and the brace that closes it.
+fn header_lines(first: &str) -> impl Iterator<Item = &'static str> + '_ {
+    let from = HEADER.lines().skip_while(move |line| !line.starts_with(first)).skip(1);
+    from.take_while(|line| !line.starts_with('}')).map(str::trim)
+}
+
+/// Each constant has its number and, before a colon or the end of its comment, the words.
+#[test]
+fn the_header_has_the_same_numbers() {
+    let lines = header_lines("enum cobblehard_number {").filter(|line| line.starts_with("COBBLEHARD_"));
+    let constants = lines.map(|line| {
+        let (constant, comment) = line.split_once("/* ").expect("a comment");
+        let words = comment.split([':', '*']).next().expect("words");
+        (constant.trim().trim_end_matches(',').to_string(), words.trim())
+    });
+    let expected = NUMBERS.iter().zip(0..);
+    let expected = expected.map(|(&(name, words), number): (_, u8)| (format!("{name} = {number}"), words));
+    assert_eq!(constants.collect::<Vec<_>>(), expected.collect::<Vec<_>>());
+}
+
+#[test]
+fn the_header_has_the_same_words() {
+    let cases = header_lines("static inline const char *cobblehard_words(").filter(|line| line.contains("return"));
+    let mut expected = NUMBERS
+        .map(|(name, words)| format!("case {name}: return \"{words}\";"))
+        .to_vec();
+    expected.push("default: return \"no such number\";".to_string());
+    assert_eq!(cases.collect::<Vec<_>>(), expected);
 }
