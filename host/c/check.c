@@ -1,8 +1,9 @@
 /* Calls the library for tests/library_test.py: a case a line on standard input, its answer a line on standard output.
  *
  *   run ROOM LOG                      number place records reply_bytes BUFFER
- *   read PLACE LOG                    number kind unit value bytes_place bytes_length next
+ *   read PLACE LOG                    number kind unit value bytes_place bytes_length next fault
  *   write KIND UNIT VALUE ROOM BYTES  number written BUFFER
+ *   words NUMBER                      the number's words
  *
  * LOG, BYTES and BUFFER are in hex, and "." is none. As LOG, BYTES or ROOM, "-" is none too, by a pointer that is NULL.
  * Behind an answer stands what should not be: a plain run that differs from emc2305_run, bytes changed before a buffer.
@@ -186,6 +187,7 @@ static void check_read(const char *place, const char *hex)
                                    &bytes_length, &next);
 
     printf("%u %u %u %u %" PRIu64 " %" PRIu64 " %" PRIu64, number, kind, unit, value, bytes_place, bytes_length, next);
+    printf(" %" PRIu64, eventlog_fault(log.bytes, log.length, parse(place)));
     take_back(log);
 }
 
@@ -216,6 +218,8 @@ static void check(char *line)
         check_read(words[1], words[2]);
     else if (count == 6 && strcmp(words[0], "write") == 0)
         check_write(words[1], words[2], words[3], words[4], words[5]);
+    else if (count == 2 && strcmp(words[0], "words") == 0)
+        fputs(cobblehard_words((uint8_t)parse(words[1])), stdout);
     else
         fail("not a case");
     putchar('\n');

@@ -17,19 +17,6 @@ static const uint8_t EXAMPLE[] = {
     0x9C, 0x46, 0x05, 0x02, 0x59, 0x01,       /* read one byte: the fan spins up, its drive is FFh */
 };
 
-/* What the numbers mean, 0 to 8. */
-static const char *const MEANING[] = {
-    "taken",
-    "the log ends inside a record",
-    "a mark byte is wrong",
-    "unknown kind",
-    "length not allowed for the kind",
-    "a field out of range",
-    "event before any power-on",
-    "transfer to another address",
-    "buffer too short",
-};
-
 static void print_bytes(const uint8_t *bytes, uint64_t length)
 {
     for (uint64_t i = 0; i < length; i++)
@@ -40,20 +27,20 @@ static void print_bytes(const uint8_t *bytes, uint64_t length)
 static void print_event(uint8_t kind, uint8_t unit, uint16_t value, const uint8_t *bytes, uint64_t length)
 {
     switch (kind) {
-    case 1:
+    case COBBLEHARD_POWER_ON:
         printf("power-on, address %02X\n", unit);
         break;
-    case 2:
+    case COBBLEHARD_TICKS:
         printf("%u ticks\n", value);
         break;
-    case 3:
+    case COBBLEHARD_SAMPLE:
         printf("tach sample of fan %u, count %u\n", unit, value);
         break;
-    case 4:
+    case COBBLEHARD_WISH:
         printf("loop wish for fan %u, drive %u\n", unit, value);
         break;
-    default:
-        if (value == 1) {
+    default: /* COBBLEHARD_TRANSFER */
+        if (value == COBBLEHARD_READS) {
             printf("read from address %02X, count %u\n", unit, bytes[0]);
         } else {
             printf("write to address %02X:", unit);
@@ -72,11 +59,12 @@ static void list_records(const uint8_t *log, size_t length)
         uint8_t number = eventlog_read(log, length, place, &kind, &unit, &value, &bytes_place, &bytes_length, &next);
 
         printf("%" PRIu64 ": ", place);
-        if (number != 0) { /* the six numbers were not set */
-            printf("refused with %u, %s\n", number, MEANING[number]);
+        if (number != COBBLEHARD_TAKEN) { /* the six numbers were not set */
+            printf("refused with %u, %s, at byte %" PRIu64 "\n", number, cobblehard_words(number),
+                   eventlog_fault(log, length, place));
             return;
         }
-        if (kind == 0) {
+        if (kind == COBBLEHARD_END) {
             printf("end of the log\n");
             return;
         }
@@ -91,7 +79,7 @@ static bool run_chip(const uint8_t *log, size_t length)
     /* The record of a read has six bytes and its reply at most 32, so this is room for all replies. */
     size_t room = length / 6 * 32;
     uint8_t *replies = malloc(room);
-    uint64_t place, records, reply_bytes;
+    uint64_t place, records, reply_bytes, fault;
     uint8_t number;
 
     if (replies == NULL && room > 0) {
@@ -99,13 +87,16 @@ static bool run_chip(const uint8_t *log, size_t length)
         return false;
     }
     number = emc2305_run(log, length, replies, room, &place, &records, &reply_bytes);
-    printf("number %u: %s\n", number, MEANING[number]);
+    printf("number %u: %s\n", number, cobblehard_words(number));
     printf("place %" PRIu64 "\n", place);
     printf("records walked %" PRIu64 "\n", records);
     printf("reply bytes %" PRIu64 ":", reply_bytes);
     print_bytes(replies, reply_bytes); /* those before a stop are good too */
     free(replies);
-    return number == 0;
+    fault = eventlog_fault(log, length, place);
+    if (fault != COBBLEHARD_NO_FAULT) /* the run stopped at a record that cannot be read */
+        printf("faulty byte %" PRIu64 "\n", fault);
+    return number == COBBLEHARD_TAKEN;
 }
 
 /* The whole file, which the caller frees, or NULL. */
