@@ -3,10 +3,11 @@
 
     python3 tests/library_test.py target/staticlib/libcobblehard.a
 
-The cases are those of host/expected/src/library.rs. Each program is built twice, the second time with gcc's address and
-undefined behaviour sanitizers.
+The cases are those of host/expected/src/library.rs, and the header's words. Each program is built twice, the second time with
+gcc's address and undefined behaviour sanitizers. The header is compiled by itself too, as C and, where there is g++, as C++.
 """
 import pathlib
+import shutil
 import subprocess
 import sys
 import tempfile
@@ -15,7 +16,9 @@ import host
 
 ROOT = pathlib.Path(__file__).resolve().parent.parent
 HOST = ROOT / "host" / "c"
-STRICT = ["-std=c11", "-Wall", "-Wextra", "-Werror", "-I", ROOT / "include"]
+WARNINGS = ["-Wall", "-Wextra", "-Werror", "-I", ROOT / "include"]
+STRICT = ["-std=c11", *WARNINGS]
+ALONE = {"gcc": ["-x", "c", *STRICT, "-pedantic"], "g++": ["-x", "c++", "-std=c++17", *WARNINGS]}
 BUILDS = {"plain": [], "sanitized": ["-g", "-fsanitize=address,undefined", "-fno-sanitize-recover=all"]}
 TIMEOUT = 120  # seconds, after which a program counts as hanging
 
@@ -33,7 +36,25 @@ def build(library, folder, name, flags):
     return program
 
 
+def check_header(folder):
+    """The header by itself, twice, with nothing of it used."""
+    for compiler, flags in ALONE.items():
+        if compiler != "gcc" and shutil.which(compiler) is None:
+            print(f"library_test: there is no {compiler}, and the header is not compiled with it")
+            continue
+        command = [compiler, *flags, "-c", "-", "-o", folder / "header.o"]
+        done = subprocess.run(command, input='#include "cobblehard.h"\n' * 2, capture_output=True, text=True)
+        if done.returncode:
+            fail(f"compiling cobblehard.h with {compiler}", done.stderr)
+
+
 # ---- the cases ----
+
+WORDS = ["taken", "the log ends inside a record", "a mark byte is wrong", "unknown kind", "length not allowed for the kind",
+         "no such fan", "event before any power-on", "transfer to another address", "buffer too short", "count out of range",
+         "address out of range", "length or clocked number of a transfer out of range"]
+WORDS_CASES = [(f"words {number}", words) for number, words in enumerate(WORDS + ["no such number"])]
+
 
 def wrong(expected, answer):
     """Both answers, cut where they are long, and both from the first difference on."""
@@ -73,11 +94,12 @@ DAMAGED_OUTPUT = """\
 38: loop wish for fan 2, drive 255
 44: read from address 2D, count 2
 50: write to address 2C:
-55: refused with 2, a mark byte is wrong
+55: refused with 2, a mark byte is wrong, at byte 56
 number 2: a mark byte is wrong
 place 55
 records walked 9
 reply bytes 4: FF 02 2B 28
+faulty byte 56
 """
 EMPTY_OUTPUT = "0: end of the log\nnumber 0: taken\nplace 0\nrecords walked 0\nreply bytes 0:\n"
 
@@ -106,13 +128,15 @@ def main():
     runs, reads, writes = (sum(line.startswith(word) for line, _ in cases) for word in ("run ", "read ", "write "))
     if not (runs and reads and writes):
         fail("host/expected", f"{runs} runs, {reads} reads and {writes} writes")
+    with tempfile.TemporaryDirectory() as path:
+        check_header(pathlib.Path(path))
     for name, flags in BUILDS.items():
         with tempfile.TemporaryDirectory() as path:
             folder = pathlib.Path(path)
             check_example(name, build(library, folder, "example", flags), folder)
-            check_cases(name, build(library, folder, "check", flags), cases)
+            check_cases(name, build(library, folder, "check", flags), cases + WORDS_CASES)
     print(f"library_test: {runs} runs, {reads} reads and {writes} writes as expected in {len(BUILDS)} builds; "
-          f"the example too")
+          f"the words and the example too")
 
 
 if __name__ == "__main__":
