@@ -374,13 +374,14 @@ impl Chip {
         }
     }
 
-    /// "A step: 5, then 6, 7, 8"; "A refusal leaves state and buffers unchanged".
+    /// A step: the numbers of the fields, then 6, 7, 8; CR 3: "without a place". "A refusal leaves state and buffers
+    /// unchanged".
     pub fn step(&mut self, event: &Event, log: &[u8], room: &mut [u8]) -> Result<usize, u8> {
         check(event, log)?;
         self.take(event, log, room)
     }
 
-    /// A step after 5: an event whose fields are in their ranges, as `log::read` gives it.
+    /// The rest of a step: an event whose fields are in their ranges, as `log::read` gives it.
     #[inline] // a run is slower without
     pub(crate) fn take(&mut self, event: &Event, log: &[u8], room: &mut [u8]) -> Result<usize, u8> {
         if self.address.is_none() && !matches!(event, Event::PowerOn { .. }) {

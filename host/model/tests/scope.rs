@@ -5,7 +5,7 @@ use model::chip::{
     TARGET_HIGH, VALID_COUNT,
 };
 use model::listing::list;
-use model::log::{read, write, Event};
+use model::log::{check, read, write, Event, Fault};
 use model::replay::{run, Run};
 
 const ADDRESS: u8 = 0x2C;
@@ -288,51 +288,142 @@ fn continuous_watch() {
     assert_eq!(chip.watch, Watch::Off);
 }
 
-// Examples: "`9C` gives 1; `9D` gives 2; `9C 46 02 09` gives 4; `9C 46 05 14 58` gives 1", and the reading order.
+/// What reading gives where it refuses.
+fn fault(number: u8, place: usize) -> Result<Option<(Event, usize)>, Fault> {
+    Err(Fault { number, place })
+}
+
+/// The record is refused with this number at this place; behind the sample log too, with the place further on, and
+/// there the run stops and the listing has the number, both at the record's own place.
+fn refused(record: &[u8], number: u8, place: usize) {
+    assert_eq!(read(record, 0), fault(number, place), "{record:02X?}");
+    let stop = SAMPLE_LOG.len();
+    let log = [&SAMPLE_LOG, record].concat();
+    assert_eq!(read(&log, stop), fault(number, stop + place), "{record:02X?}");
+    let expected = Run {
+        number,
+        place: stop,
+        records: 3,
+        reply_bytes: 1,
+    };
+    assert_eq!(run(&log, &mut [0; 9]), expected, "{record:02X?}");
+    let mut lines = Vec::new();
+    list(&log, &mut lines);
+    let expected = format!("0 0\n5 0\n12 0 FF\n18 {number}\nstop 18\n");
+    assert_eq!(String::from_utf8(lines).unwrap(), expected, "{record:02X?}");
+}
+
+// Examples: "`9C` gives 1; `9D` gives 2; `9C 46 02 09` gives 4; `9C 46 05 14 58` gives 1", and the reading order. CR 3,
+// as read: the place "of 2 the first wrong mark byte, of 3 the kind byte, of 4 the length byte, of 1 where the first
+// missing byte would stand".
 #[test]
 fn reader_refusals() {
-    let cases: [(&[u8], u8); 23] = [
-        (&[0x9C], 1),
-        (&[0x9D], 2),
-        (&[0x9C, 0x46, 0x02, 0x09], 4),
-        (&[0x9C, 0x46, 0x05, 0x14, 0x58], 1),
-        (&[0x9C, 0x47], 2),
-        (&[0x9D, 0x46, 0x09, 0x09], 2),
-        (&[0x9C, 0x46, 0x09], 1),
-        (&[0x9C, 0x46, 0x00, 0x01, 0x00], 3),
-        (&[0x9C, 0x46, 0x06, 0x63], 3),
-        (&[0x9C, 0x46, 0x01, 0x00], 4),
-        (&[0x9C, 0x46, 0x05, 0x00], 4),
-        (&[0x9C, 0x46, 0x05, 0x22], 4),
-        (&[0x9C, 0x46, 0x02, 0x03, 0x00, 0x00, 0x00], 4),
-        (&[0x9C, 0x46, 0x03, 0x04, 0x01, 0x00, 0x00, 0x00], 4),
-        (&[0x9C, 0x46, 0x04, 0x01, 0x01], 4),
-        (&[0x9C, 0x46, 0x01, 0x01, 0x80], 5),
-        (&[0x9C, 0x46, 0x03, 0x03, 0x00, 0x00], 1),
-        (&[0x9C, 0x46, 0x03, 0x03, 0x06, 0x00, 0x00], 5),
-        (&[0x9C, 0x46, 0x03, 0x03, 0x05, 0x00, 0x20], 5),
-        (&[0x9C, 0x46, 0x04, 0x02, 0x00, 0xFF], 5),
-        (&[0x9C, 0x46, 0x05, 0x01, 0x59], 5),
-        (&[0x9C, 0x46, 0x05, 0x02, 0x59, 0x21], 5),
-        (&[0x9C, 0x46, 0x05, 0x03, 0x59, 0x01, 0x01], 5),
+    let cases: [(&[u8], u8, usize); 20] = [
+        (&[0x9C], 1, 1),
+        (&[0x9D], 2, 0),
+        (&[0x9C, 0x46, 0x02, 0x09], 4, 3),
+        (&[0x9C, 0x46, 0x05, 0x14, 0x58], 1, 5),
+        (&[0x9C, 0x47], 2, 1),
+        (&[0x9D, 0x47], 2, 0),
+        (&[0x9D, 0x46, 0x09, 0x09], 2, 0),
+        (&[0x9C, 0x9C, 0x01, 0x01, 0x80], 2, 1),
+        (&[0x9C, 0x46, 0x09], 1, 3),
+        (&[0x9C, 0x46, 0x00, 0x01, 0x00], 3, 2),
+        (&[0x9C, 0x46, 0x06, 0x63], 3, 2),
+        (&[0x9C, 0x46, 0x01, 0x00], 4, 3),
+        (&[0x9C, 0x46, 0x05, 0x00], 4, 3),
+        (&[0x9C, 0x46, 0x05, 0x22], 4, 3),
+        (&[0x9C, 0x46, 0x02, 0x03, 0x00, 0x00, 0x00], 4, 3),
+        (&[0x9C, 0x46, 0x03, 0x04, 0x00, 0x00, 0x20, 0x00], 4, 3),
+        (&[0x9C, 0x46, 0x04, 0x01, 0x06], 4, 3),
+        (&[0x9C, 0x46, 0x01, 0x01], 1, 4),
+        (&[0x9C, 0x46, 0x03, 0x03, 0x00, 0x00], 1, 6),
+        (&[0x9C, 0x46, 0x05, 0x03, 0x59, 0x00], 1, 6),
     ];
-    for (log, number) in cases {
-        assert_eq!(read(log, 0), Err(number), "{log:02X?}");
-        assert_eq!(
-            run(log, &mut []),
-            Run {
-                number,
-                place: 0,
-                records: 0,
-                reply_bytes: 0
-            },
-            "{log:02X?}"
-        );
+    for (record, number, place) in cases {
+        refused(record, number, place);
     }
     assert_eq!(read(&[], 0), Ok(None));
     assert_eq!(read(&SAMPLE_LOG, 18), Ok(None));
-    assert_eq!(read(&SAMPLE_LOG, 19), Err(1));
-    assert_eq!(read(&SAMPLE_LOG, usize::MAX), Err(1));
+    assert_eq!(read(&SAMPLE_LOG, 17), fault(2, 17));
+    assert_eq!(read(&SAMPLE_LOG, 19), fault(1, 19));
+    assert_eq!(read(&SAMPLE_LOG, usize::MAX), fault(1, usize::MAX));
+    assert_eq!(read(&[], 1), fault(1, 1));
+}
+
+// CR 3: "5 stays for the fan, 9 is the tach count, 10 the bus address, 11 the read length or the clocked number"; the
+// place of a count is "its low byte, for a read transfer with n other than 2 the length byte".
+#[test]
+fn one_field_out_of_range() {
+    let cases: [(&[u8], u8, usize); 19] = [
+        (&[0x9C, 0x46, 0x01, 0x01, 0x80], 10, 4),
+        (&[0x9C, 0x46, 0x01, 0x01, 0xFF], 10, 4),
+        (&[0x9C, 0x46, 0x03, 0x03, 0x00, 0x00, 0x00], 5, 4),
+        (&[0x9C, 0x46, 0x03, 0x03, 0x06, 0xFF, 0x1F], 5, 4),
+        (&[0x9C, 0x46, 0x03, 0x03, 0xFF, 0x00, 0x00], 5, 4),
+        (&[0x9C, 0x46, 0x03, 0x03, 0x05, 0x00, 0x20], 9, 5),
+        (&[0x9C, 0x46, 0x03, 0x03, 0x01, 0x01, 0x20], 9, 5),
+        (&[0x9C, 0x46, 0x03, 0x03, 0x01, 0x00, 0x80], 9, 5),
+        (&[0x9C, 0x46, 0x03, 0x03, 0x01, 0xFF, 0xFF], 9, 5),
+        (&[0x9C, 0x46, 0x04, 0x02, 0x00, 0xFF], 5, 4),
+        (&[0x9C, 0x46, 0x04, 0x02, 0x06, 0x00], 5, 4),
+        (&[0x9C, 0x46, 0x04, 0x02, 0xFF, 0x00], 5, 4),
+        (&[0x9C, 0x46, 0x05, 0x01, 0x59], 11, 3),
+        (&[0x9C, 0x46, 0x05, 0x01, 0xFF], 11, 3),
+        (&[0x9C, 0x46, 0x05, 0x03, 0x59, 0x01, 0x01], 11, 3),
+        (&[0x9C, 0x46, 0x05, 0x03, 0x59, 0x20, 0x00], 11, 3),
+        (&[0x9C, 0x46, 0x05, 0x02, 0x59, 0x00], 11, 5),
+        (&[0x9C, 0x46, 0x05, 0x02, 0x59, 0x21], 11, 5),
+        (&[0x9C, 0x46, 0x05, 0x02, 0xFF, 0xFF], 11, 5),
+    ];
+    for (record, number, place) in cases {
+        refused(record, number, place);
+    }
+    let whole = [&[0x9C, 0x46, 0x05, 0x21, 0x59][..], &[1; 32]].concat();
+    refused(&whole, 11, 3);
+    refused(&whole[..36], 1, 36);
+}
+
+// The log's table: the fields at the ends of their ranges are taken.
+#[test]
+fn fields_at_the_ends_of_their_ranges() {
+    for record in [
+        &[0x9C, 0x46, 0x01, 0x01, 0x00][..],
+        &[0x9C, 0x46, 0x01, 0x01, 0x7F],
+        &[0x9C, 0x46, 0x03, 0x03, 0x01, 0x00, 0x00],
+        &[0x9C, 0x46, 0x03, 0x03, 0x05, 0xFF, 0x1F],
+        &[0x9C, 0x46, 0x04, 0x02, 0x01, 0x00],
+        &[0x9C, 0x46, 0x04, 0x02, 0x05, 0xFF],
+        &[0x9C, 0x46, 0x05, 0x02, 0x01, 0x01],
+        &[0x9C, 0x46, 0x05, 0x02, 0xFF, 0x20],
+        &[0x9C, 0x46, 0x05, 0x01, 0xFE],
+        &[0x9C, 0x46, 0x05, 0x02, 0x58, 0x00],
+        &[0x9C, 0x46, 0x05, 0x03, 0x58, 0x21, 0xFF],
+    ] {
+        let next = record.len();
+        assert!(
+            matches!(read(record, 0), Ok(Some((_, end))) if end == next),
+            "{record:02X?}"
+        );
+    }
+}
+
+// CR 3: "where two fields are bad the earlier byte wins"; as read: "A read with n other than 2 is 11 at the length
+// byte, whatever its clocked number."
+#[test]
+fn two_fields_out_of_range() {
+    for fan in [0x00, 0x06, 0xFF] {
+        for [low, high] in [[0x00, 0x20], [0xFF, 0xFF]] {
+            refused(&[0x9C, 0x46, 0x03, 0x03, fan, low, high], 5, 4);
+        }
+    }
+    for n in 3..=33 {
+        for clocked in [0x00, 0x01, 0x20, 0x21, 0xFF] {
+            let mut record = vec![0x9C, 0x46, 0x05, n, 0x59, clocked];
+            record.resize(4 + usize::from(n), 0x00);
+            refused(&record, 11, 3);
+        }
+    }
 }
 
 // The log's table: what is written is read back as the same event, and the rest of the buffer stays.
@@ -384,46 +475,114 @@ fn writer_and_reader() {
     }
 }
 
-// Numbers given back: 5 before 6 and 8, also for a transfer whose bytes aren't within the log lent with it.
-#[test]
-fn fields_out_of_range() {
-    let log = [0, 33, 32, 1];
-    let transfer = |read, place, length| Event::Transfer {
-        address: 1,
+fn transfer(address: u8, read: bool, place: usize, length: usize) -> Event {
+    Event::Transfer {
+        address,
         read,
         place,
         length,
-    };
-    let bad = [
-        Event::PowerOn { address: 128 },
-        Event::Sample { fan: 0, count: 0 },
-        Event::Sample { fan: 1, count: 8192 },
-        Event::Wish { fan: 6, drive: 0 },
-        Event::Transfer {
-            address: 128,
-            read: false,
-            place: 0,
-            length: 0,
-        },
-        transfer(false, 5, 0),
-        transfer(false, 4, 1),
-        transfer(false, 1, usize::MAX),
-        transfer(false, usize::MAX, 1),
-        transfer(true, 0, 1),
-        transfer(true, 1, 1),
-        transfer(true, 2, 2),
-        transfer(true, 2, 0),
-        transfer(true, 4, 1),
-    ];
-    for event in bad {
-        assert_eq!(write(&event, &log, &mut []), Err(5), "{event:?}");
-        assert_eq!(Chip::unpowered().step(&event, &log, &mut []), Err(5), "{event:?}");
     }
-    assert_eq!(write(&transfer(false, 4, 0), &log, &mut [0; 5]), Ok(5));
-    assert_eq!(write(&transfer(false, 0, 33), &[0; 40], &mut [0; 50]), Err(5));
+}
+
+/// The event is refused with this number: by the writer whatever the room, by a step before power-on and after it.
+fn not_taken(event: &Event, log: &[u8], number: u8) {
+    assert_eq!(check(event, log), Err(number), "{event:?}");
+    for room in [0, 50] {
+        let mut out = vec![0xEE; room];
+        assert_eq!(write(event, log, &mut out), Err(number), "{event:?}");
+        assert_eq!(out, vec![0xEE; room], "{event:?}");
+        for before in [Chip::unpowered(), powered()] {
+            let mut chip = before.clone();
+            assert_eq!(chip.step(event, log, &mut out), Err(number), "{event:?}");
+            assert_eq!((chip, &out), (before, &vec![0xEE; room]), "{event:?}");
+        }
+    }
+}
+
+// CR 3: "A step and the writer give the number without a place; a transfer event with over 32 bytes, or bytes not in
+// the log, gets 11"; the numbers of the fields come before 6, 7 and 8.
+#[test]
+fn events_with_one_field_out_of_range() {
+    let log = [&[0, 33, 32, 1, 255][..], &[0; 40]].concat();
+    let bad = [
+        (Event::PowerOn { address: 128 }, 10),
+        (Event::PowerOn { address: 255 }, 10),
+        (Event::Sample { fan: 0, count: 0 }, 5),
+        (Event::Sample { fan: 6, count: 8191 }, 5),
+        (Event::Sample { fan: 1, count: 8192 }, 9),
+        (Event::Sample { fan: 5, count: 65535 }, 9),
+        (Event::Wish { fan: 0, drive: 0 }, 5),
+        (Event::Wish { fan: 6, drive: 255 }, 5),
+        (transfer(128, false, 0, 0), 10),
+        (transfer(255, true, 2, 1), 10),
+        (transfer(1, false, 0, 33), 11),
+        (transfer(1, false, 46, 0), 11),
+        (transfer(1, false, 45, 1), 11),
+        (transfer(1, false, 1, usize::MAX), 11),
+        (transfer(1, false, usize::MAX, 1), 11),
+        (transfer(1, true, 0, 1), 11),
+        (transfer(1, true, 1, 1), 11),
+        (transfer(1, true, 4, 1), 11),
+        (transfer(1, true, 2, 0), 11),
+        (transfer(1, true, 2, 2), 11),
+        (transfer(1, true, 2, 33), 11),
+        (transfer(1, true, 45, 1), 11),
+    ];
+    for (event, number) in bad {
+        not_taken(&event, &log, number);
+    }
+    assert_eq!(write(&transfer(1, false, 45, 0), &log, &mut [0; 5]), Ok(5));
     let mut longest = [0; 37];
-    assert_eq!(write(&transfer(false, 0, 32), &[0; 40], &mut longest), Ok(37));
-    assert_eq!(read(&longest, 0), Ok(Some((transfer(false, 5, 32), 37))));
+    assert_eq!(write(&transfer(1, false, 0, 32), &log, &mut longest), Ok(37));
+    assert_eq!(read(&longest, 0), Ok(Some((transfer(1, false, 5, 32), 37))));
+}
+
+// CR 3, as read, of an event handed in: "over 32 bytes, a read with another number of bytes than one, or bytes not in
+// the log give 11; then an address above 127 gives 10; then a clocked number outside 1..32 gives 11"; of a sample the
+// fan's byte is the earlier one.
+#[test]
+fn events_with_two_fields_out_of_range() {
+    let log = [&[0, 33, 32, 1, 255][..], &[0; 40]].concat();
+    for (fan, count) in [(0, 8192), (6, 8192), (255, 65535)] {
+        not_taken(&Event::Sample { fan, count }, &log, 5);
+    }
+    for address in [128, 255] {
+        for (place, length) in [(0, 33), (46, 0), (45, 1), (14, 32), (usize::MAX, 2)] {
+            not_taken(&transfer(address, false, place, length), &log, 11);
+            not_taken(&transfer(address, true, place, length), &log, 11);
+        }
+        for length in [0, 2, 32, 33] {
+            not_taken(&transfer(address, true, 2, length), &log, 11);
+        }
+        for place in [0, 1, 4] {
+            not_taken(&transfer(address, true, place, 1), &log, 10);
+        }
+    }
+}
+
+// CR 3: "9, 10 and 11 stop a run as 5 does": nothing behind them is walked, and before power-on they come too.
+#[test]
+fn a_run_stops_at_a_field() {
+    for (record, number) in [
+        (&[0x9C, 0x46, 0x04, 0x02, 0x00, 0x00][..], 5),
+        (&[0x9C, 0x46, 0x03, 0x03, 0x05, 0x00, 0x20], 9),
+        (&[0x9C, 0x46, 0x01, 0x01, 0x80], 10),
+        (&[0x9C, 0x46, 0x05, 0x01, 0x59], 11),
+        (&[0x9C, 0x46, 0x05, 0x02, 0x5B, 0x00], 11),
+    ] {
+        for (before, records) in [(0, 0), (5, 1), (12, 2)] {
+            let log = [&SAMPLE_LOG[..before], record, &SAMPLE_LOG].concat();
+            let mut replies = [0xEE; 4];
+            let expected = Run {
+                number,
+                place: before,
+                records,
+                reply_bytes: 0,
+            };
+            assert_eq!(run(&log, &mut replies), expected, "{record:02X?}");
+            assert_eq!(replies, [0xEE; 4], "{record:02X?}");
+        }
+    }
 }
 
 // Numbers given back: 6, 7 and 8 of a step, each leaving state and buffer unchanged.
