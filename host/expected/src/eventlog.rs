@@ -2,8 +2,8 @@
 
 use crate::chance::Chance;
 use crate::events::{clock, name, power_on, sample, send, ticks, wish, words, LARGEST, WRAPPING};
-use crate::script::{bytes, code, hex_or, rows, Script};
-use model::log::{check, read, write, Event};
+use crate::script::{byte, bytes, code, hex_or, rows, Script};
+use model::log::{check, read, write, Event, Fault, MARK};
 
 /// What stands in a lent buffer before the writer is called.
 const FILL: u8 = 0xEE;
@@ -14,11 +14,15 @@ pub fn script() -> Script {
     cut_cases(&mut script);
     head_cases(&mut script);
     field_cases(&mut script);
+    pair_cases(&mut script);
+    edge_cases(&mut script);
+    behind_cases(&mut script);
     for record in good_records() {
         again_case(&mut script, &record);
     }
     plain_write_cases(&mut script);
     transfer_write_cases(&mut script);
+    pair_write_cases(&mut script);
     room_cases(&mut script);
     damaged_cases(&mut script);
     script
@@ -43,16 +47,21 @@ fn reading(log: &[u8], place: usize) -> String {
     match read(log, place) {
         Ok(Some((event, next))) => format!("0 next {next} {}", shown(&event, log)),
         Ok(None) => "end".into(),
-        Err(number) => number.to_string(),
+        Err(fault) => refusal(fault),
     }
 }
 
-/// The number of the first record, or 'end'.
-fn number_at_start(log: &[u8]) -> String {
+/// A refusal of reading: 'number@place', the place being that of the first faulty byte.
+fn refusal(Fault { number, place }: Fault) -> String {
+    format!("{number}@{place}")
+}
+
+/// What reading the first record answers, without its event: 0, 'end' or a refusal.
+fn answer_at_start(log: &[u8]) -> String {
     match read(log, 0) {
         Ok(Some(_)) => "0".into(),
         Ok(None) => "end".into(),
-        Err(number) => number.to_string(),
+        Err(fault) => refusal(fault),
     }
 }
 
@@ -63,22 +72,22 @@ fn read_case(script: &mut Script, log: &[u8], place: usize) {
 
 /// Every prefix, the empty one first.
 fn cut_case(script: &mut Script, log: &[u8]) {
-    let numbers: Vec<String> = (0..=log.len()).map(|length| number_at_start(&log[..length])).collect();
-    let line = format!("cut {}: {}", hex_or("-", log), numbers.join(" "));
+    let answers: Vec<String> = (0..=log.len()).map(|length| answer_at_start(&log[..length])).collect();
+    let line = format!("cut {}: {}", hex_or("-", log), answers.join(" "));
     script.add(b'c', log, &line);
 }
 
-/// Every value of one byte: 'v=number' where the number is not that of the value before.
+/// Every value of one byte: 'v=answer' where the number or the place is not that of the value before.
 fn vary_case(script: &mut Script, log: &[u8], at: u8) {
     let mut line = format!("vary {} byte {at}:", hex_or("-", log));
     let (mut varied, mut last) = (log.to_vec(), String::new());
     for value in 0..=255 {
         varied[usize::from(at)] = value;
-        let number = number_at_start(&varied);
-        if number != last {
-            line += &format!(" {value}={number}");
+        let answer = answer_at_start(&varied);
+        if answer != last {
+            line += &format!(" {value}={answer}");
         }
-        last = number;
+        last = answer;
     }
     script.add(b'v', &[&[at], log].concat(), &line);
 }
@@ -99,7 +108,8 @@ fn write_case(script: &mut Script, event: &Event, log: &[u8], room: u8) {
     script.add(b'w', &[&[room], &fields(event)[..], log].concat(), &line);
 }
 
-/// An event in six bytes: kind (6: a transfer that reads), a small field, a count in two, a place, a length.
+/// An event in six bytes: kind, a small field, a count in two, a place, a length. A transfer that reads has 13 for its
+/// kind, which is no record's: 6 and those after it are free for kinds to come.
 fn fields(event: &Event) -> [u8; 6] {
     match *event {
         Event::PowerOn { address } => [1, address, 0, 0, 0, 0],
@@ -111,7 +121,7 @@ fn fields(event: &Event) -> [u8; 6] {
             read,
             place,
             length,
-        } => [5 + u8::from(read), address, 0, 0, code(place), code(length)],
+        } => [if read { 13 } else { 5 }, address, 0, 0, code(place), code(length)],
     }
 }
 
@@ -135,6 +145,16 @@ const EXAMPLE: &str = "9C46 01 01 2C 9C46 05 03 58 30 80 9C46 05 02 59 01";
 fn headed(head: &str, first: u8, length: usize) -> Vec<u8> {
     let payload = [vec![first, 1], vec![0; 31]].concat();
     [bytes(head), payload[..length].to_vec()].concat()
+}
+
+/// A record with its n, whatever its fields are.
+fn record(kind: u8, payload: &[u8]) -> Vec<u8> {
+    [&[MARK[0], MARK[1], kind, byte(payload.len())], payload].concat()
+}
+
+/// A transfer that reads, with an n from 2 on.
+fn read_record(n: usize, clocked: u8) -> Vec<u8> {
+    record(5, &[vec![0x59, clocked], vec![1; n - 2]].concat())
 }
 
 /// The longest record of all.
@@ -180,8 +200,11 @@ fn cut_cases(script: &mut Script) {
     );
     let after = rows("9C46 05 02 59 01");
     // records that are refused once enough of them is there
-    let refused =
-        rows("9D46 01 01 2C, 9C47 01 01 2C, 9C46 06 01 2C, 9C46 01 02 2C 00, 9C46 01 01 80, 9C46 05 03 59 01 01");
+    let refused = rows(
+        "9D46 01 01 2C, 9C47 01 01 2C, 9D47 01 01 2C, 9C46 06 01 2C, 9C46 01 02 2C 00, 9C46 01 01 80, \
+         9C46 03 03 00 00 20, 9C46 03 03 01 00 20, 9C46 04 02 06 00, 9C46 05 01 59, 9C46 05 02 59 00, \
+         9C46 05 03 59 01 01, 9C46 05 03 59 00 00",
+    );
     for record in [before, vec![longest_write()], after, refused].concat() {
         cut_case(script, &record);
     }
@@ -227,6 +250,71 @@ fn field_cases(script: &mut Script) {
         ("9C46 05 02 59 01", 5),
     ] {
         vary_case(script, &bytes(record), at);
+    }
+}
+
+/// Two fields at fault in one record, or one of the two: each over its 256 values.
+fn pair_cases(script: &mut Script) {
+    // fan and count
+    for (record, at) in [
+        ("9C46 03 03 01 00 20", 4),
+        ("9C46 03 03 01 FF FF", 4),
+        ("9C46 03 03 00 00 20", 5),
+        ("9C46 03 03 01 00 20", 5),
+        ("9C46 03 03 01 00 1F", 5),
+        ("9C46 03 03 00 00 00", 6),
+        ("9C46 03 03 05 00 00", 6),
+        ("9C46 03 03 06 FF 00", 6),
+        ("9C46 04 02 00 00", 5),
+    ] {
+        vary_case(script, &bytes(record), at);
+    }
+    // a read's n and the clocked number
+    for n in 2..=33 {
+        vary_case(script, &read_record(n, 1), 5);
+    }
+    for clocked in [0, 32, 33, 255] {
+        vary_case(script, &read_record(33, clocked), 3);
+        vary_case(script, &read_record(32, clocked), 3);
+    }
+}
+
+/// Every field on both sides of its edges, with each other field of the record so too.
+fn edge_records() -> Vec<Vec<u8>> {
+    let mut records: Vec<Vec<u8>> = [0, 127, 128, 255]
+        .iter()
+        .map(|&address| record(1, &[address]))
+        .collect();
+    for fan in [0, 1, 5, 6, 255] {
+        for [low, high] in [0, 8191, 8192, 8447, 65280, 65535].map(u16::to_le_bytes) {
+            records.push(record(3, &[fan, low, high]));
+        }
+        records.extend([0, 255].map(|drive| record(4, &[fan, drive])));
+    }
+    records.push(record(5, &[0x59]));
+    for clocked in [0, 1, 32, 33, 255] {
+        records.extend([2, 3, 4, 32, 33].map(|n| read_record(n, clocked)));
+    }
+    records
+}
+
+fn edge_cases(script: &mut Script) {
+    for record in edge_records() {
+        read_case(script, &record, 0);
+        let before = bytes(EXAMPLE);
+        let log = [&before[..], &record, &bytes("9C46 01 01 2C")].concat();
+        read_case(script, &log, before.len());
+    }
+}
+
+/// What is no field, behind other records: the place goes on with theirs.
+fn behind_cases(script: &mut Script) {
+    for rest in rows(
+        "9C, 9C46, 9C46 01, 9C46 06, 9D, 9C47, 9D47, 9C9D 01 01 80, 9C46 00 00, 9C46 06 01 2C, 9C46 01 02 80 00, \
+         9C46 02 09, 9C46 05 00, 9C46 05 22, 9C46 03 03 00, 9C46 05 14 58, 9C46 05 02 59, 9C46 05 03 59 00",
+    ) {
+        let before = bytes(EXAMPLE);
+        read_case(script, &[&before[..], &rest].concat(), before.len());
     }
 }
 
@@ -296,6 +384,27 @@ fn transfer_write_cases(script: &mut Script) {
     }
 }
 
+/// Two fields at fault in one event, or one of the two: the earlier byte's number, whatever the room.
+fn pair_write_cases(script: &mut Script) {
+    let mut events = Vec::new();
+    for fan in [0, 1, 5, 6] {
+        events.extend([8191, 8192, 65535].map(|count| sample(fan, count)));
+    }
+    for address in [127, 128, 255] {
+        // over 32 bytes; not wholly within the log
+        for (place, length) in [(4, 33), (0, 37), (0, 38), (37, 1), (38, 0), (6, 32), (LARGEST, 2)] {
+            events.extend([send, clock].map(|kind| kind(address, place, length)));
+        }
+        // a read of another number of bytes than one; a clocked number of 0, 33, 255
+        events.extend([0, 2, 32, 33].map(|length| clock(address, 1, length)));
+        events.extend([0, 3, 4].map(|place| clock(address, place, 1)));
+    }
+    for event in events {
+        write_case(script, &event, &sent(), 40);
+        write_case(script, &event, &sent(), 0);
+    }
+}
+
 fn room_cases(script: &mut Script) {
     // one byte too few, exactly enough, none
     for (event, length) in [
@@ -312,7 +421,7 @@ fn room_cases(script: &mut Script) {
             write_case(script, &event, &sent(), room);
         }
     }
-    // 5 before 8
+    // the numbers of the fields before 8
     for event in [
         power_on(128),
         sample(6, 0),
