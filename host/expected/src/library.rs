@@ -2,10 +2,11 @@
 //! explains; the numbers that stand for an event are those of include/cobblehard.h.
 
 use crate::chance::Chance;
+use crate::emc2305::FANS;
 use crate::events;
 use crate::logs::{example, random_logs, short, sprinkled, stops, traffic, truncations, written_logs};
 use crate::script::{hex_or, Script};
-use model::log::{read, write, Event, FIELD, UNKNOWN_KIND};
+use model::log::{read, write, Event, ADDRESS, BYTES, COUNT, FAN, UNKNOWN_KIND};
 use model::replay::run;
 use std::collections::BTreeSet;
 
@@ -15,7 +16,12 @@ const PRESET_8: u8 = 0xA5;
 const PRESET_16: u16 = 0xA5A5;
 const PRESET_64: u64 = 0xA5A5_A5A5_A5A5_A5A5;
 
+/// What eventlog_fault answers where nothing is refused.
+const NO_FAULT: u64 = u64::MAX;
+
 const LONGEST_REPLY: usize = 32;
+/// The most bytes that a transfer has after its address byte.
+const MOST_BYTES: usize = 32;
 
 pub fn script() -> Script {
     let (mut script, chance) = (Script::default(), Chance::new(20_262_305));
@@ -81,12 +87,14 @@ fn read_cases(script: &mut Script, log: &[u8]) {
     }
 }
 
-/// A refusal leaves the numbers as they were; at the end all but the place are 0.
+/// A refusal leaves the numbers as they were; at the end all but the place are 0. The last number is the place of the
+/// fault, which a function of its own answers.
 fn read_answer(log: &[u8], place: usize) -> String {
+    let preset = format!("{PRESET_8} {PRESET_8} {PRESET_16} {PRESET_64} {PRESET_64} {PRESET_64}");
     match read(log, place) {
-        Ok(Some((event, next))) => format!("0 {} {next}", event_numbers(&event)),
-        Ok(None) => format!("0 0 0 0 0 0 {place}"),
-        Err(number) => format!("{number} {PRESET_8} {PRESET_8} {PRESET_16} {PRESET_64} {PRESET_64} {PRESET_64}"),
+        Ok(Some((event, next))) => format!("0 {} {next} {NO_FAULT}", event_numbers(&event)),
+        Ok(None) => format!("0 0 0 0 0 0 {place} {NO_FAULT}"),
+        Err(fault) => format!("{} {preset} {}", fault.number, fault.place),
     }
 }
 
@@ -163,19 +171,21 @@ fn write_answer(kind: u8, unit: u8, value: u16, room: usize, sent: &[u8]) -> Str
     format!("{numbers} {}", hex_or(".", &buffer))
 }
 
-/// The event that numbers stand for. The header: 3 for an unknown kind, 5 for a drive or a direction that is none.
+/// The event that numbers stand for; 3 for an unknown kind. A drive or a direction that is none has the number of its
+/// byte in a record, where no earlier byte is at fault: a drive 9, that of what follows the fan; a direction 10, as it
+/// shares the address byte.
 fn event_of_numbers(kind: u8, unit: u8, value: u16, length: usize) -> Result<Event, u8> {
     match (kind, value) {
         (1, _) => Ok(events::power_on(unit)),
         (2, _) => Ok(events::ticks(value)),
         (3, _) => Ok(events::sample(unit, value)),
-        (4, _) => match u8::try_from(value) {
-            Ok(drive) => Ok(events::wish(unit, drive)),
-            Err(_) => Err(FIELD),
-        },
+        (4, 0..=255) => Ok(events::wish(unit, value as u8)),
+        (4, _) if !FANS.contains(&unit) => Err(FAN),
+        (4, _) => Err(COUNT),
         (5, 0) => Ok(events::send(unit, 0, length)),
         (5, 1) => Ok(events::clock(unit, 0, length)),
-        (5, _) => Err(FIELD),
+        (5, _) if length > MOST_BYTES => Err(BYTES),
+        (5, _) => Err(ADDRESS),
         _ => Err(UNKNOWN_KIND),
     }
 }
