@@ -70,8 +70,17 @@ pub fn short() -> Vec<u8> {
 }
 
 /// What stops a run, by its number; what gives 1 has to end the log.
-pub fn endings() -> [(u8, Vec<Vec<u8>>); 5] {
-    let ones = |head: &str, count: usize| vec![[bytes(head), vec![1; count]].concat()];
+pub fn endings() -> Vec<(u8, Vec<Vec<u8>>)> {
+    [head_endings(), field_endings()].concat()
+}
+
+/// A head, and so many bytes 01 behind it.
+fn ones(head: &str, count: usize) -> Vec<Vec<u8>> {
+    vec![[bytes(head), vec![1; count]].concat()]
+}
+
+/// Endings by the log's end, the mark, the kind and the length.
+fn head_endings() -> Vec<(u8, Vec<Vec<u8>>)> {
     let cut = rows(
         "9C, 9C46, 9C46 01, 9C46 06, 9C46 01 01, 9C46 02 02, 9C46 02 02 2C, 9C46 03 03 00 FF, 9C46 04 02 06, \
          9C46 05 01, 9C46 05 14 58, 9C46 05 02 59, 9C46 05 03 59 00, 9C46 05 21",
@@ -85,19 +94,32 @@ pub fn endings() -> [(u8, Vec<Vec<u8>>); 5] {
         "9C46 01 00, 9C46 01 02 2C 00, 9C46 01 FF, 9C46 02 01 00, 9C46 02 03 00 00 00, 9C46 02 09, 9C46 03 02 01 00, \
          9C46 03 04 01 00 00 00, 9C46 04 01 01, 9C46 04 03 01 00 00, 9C46 05 00",
     );
-    let fields = rows(
-        "9C46 01 01 80, 9C46 01 01 FF, 9C46 03 03 00 00 00, 9C46 03 03 06 00 00, 9C46 03 03 FF FF FF, \
-         9C46 03 03 01 00 20, 9C46 03 03 05 FF FF, 9C46 04 02 00 00, 9C46 04 02 06 FF, 9C46 05 02 59 00, \
-         9C46 05 02 59 21, 9C46 05 02 59 FF, 9C46 05 01 59, 9C46 05 03 59 01 01",
-    );
     let after_lengths = rows("9C46 05 22, 9C46 05 FF 59 01");
-    let after_fields = rows("9C46 05 02 5B 00");
-    [
+    vec![
         (1, [cut, ones("9C46 05 21 58", 31)].concat()),
         (2, marks),
         (3, kinds),
         (4, [lengths, ones("9C46 05 22 58", 33), after_lengths].concat()),
-        (5, [fields, ones("9C46 05 21 59", 32), after_fields].concat()),
+    ]
+}
+
+/// Endings by each field, alone and two at once; reads are to the chip's address and to another one.
+fn field_endings() -> Vec<(u8, Vec<Vec<u8>>)> {
+    let fans = rows(
+        "9C46 03 03 00 00 00, 9C46 03 03 06 00 00, 9C46 03 03 FF FF 1F, 9C46 03 03 00 00 20, 9C46 03 03 06 FF FF, \
+         9C46 03 03 FF FF FF, 9C46 04 02 00 00, 9C46 04 02 06 FF, 9C46 04 02 FF 80",
+    );
+    let counts = rows("9C46 03 03 01 00 20, 9C46 03 03 03 01 20, 9C46 03 03 05 FF FF, 9C46 03 03 02 00 80");
+    let addresses = rows("9C46 01 01 FF, 9C46 01 01 AC, 9C46 01 01 80");
+    let reads = rows(
+        "9C46 05 01 59, 9C46 05 01 FF, 9C46 05 03 59 01 01, 9C46 05 03 59 00 00, 9C46 05 04 5B 21 01 01, \
+         9C46 05 02 59 00, 9C46 05 02 59 21, 9C46 05 02 59 FF, 9C46 05 02 5B 00",
+    );
+    vec![
+        (5, fans),
+        (9, counts),
+        (10, addresses),
+        (11, [ones("9C46 05 21 59", 32), reads].concat()),
     ]
 }
 

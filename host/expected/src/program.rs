@@ -39,7 +39,7 @@ fn add(script: &mut Script, name: &str, log: &[u8]) {
 // ---- short logs ----
 
 /// Document 01's examples and a few others, with their listings.
-fn written_out() -> [(&'static str, Vec<u8>, &'static str); 8] {
+fn written_out() -> [(&'static str, Vec<u8>, &'static str); 12] {
     [
         ("document 01's example", example(), "0 0\n5 0\n12 0 FF\nend 18\n"),
         ("no bytes", vec![], "end 0\n"),
@@ -47,6 +47,10 @@ fn written_out() -> [(&'static str, Vec<u8>, &'static str); 8] {
         ("9D", bytes("9D"), "0 2\nstop 0\n"),
         ("9C 46 02 09", bytes("9C 46 02 09"), "0 4\nstop 0\n"),
         ("9C 46 05 14 58", bytes("9C 46 05 14 58"), "0 1\nstop 0\n"),
+        ("fan 0", bytes("9C 46 03 03 00 00 20"), "0 5\nstop 0\n"),
+        ("count 8192", bytes("9C 46 03 03 01 00 20"), "0 9\nstop 0\n"),
+        ("address 128", bytes("9C 46 01 01 80"), "0 10\nstop 0\n"),
+        ("33 bytes clocked", bytes("9C 46 05 02 59 21"), "0 11\nstop 0\n"),
         (
             "6 and 7 last",
             [clock(1), power_on_at(5), clock(1)].concat(),
