@@ -2,10 +2,10 @@
 
 use super::bench::{row, Bench, HEALTHY, STALLED};
 use super::{CONFIGURATION, ENABLE, FANS, HOME, STALL};
-use crate::events::{clock, send, WRAPPING};
+use crate::events::{clock, send, LARGEST, WRAPPING};
 
 pub fn cases(bench: &mut Bench) {
-    refusal_5_cases(bench);
+    field_cases(bench);
     taken_cases(bench);
     refusal_6_cases(bench);
     refusal_7_cases(bench);
@@ -65,16 +65,41 @@ fn bad_transfers(bench: &mut Bench) {
     }
 }
 
-fn refusal_5_cases(bench: &mut Bench) {
-    bench.title("5: address past 127, fan 0 and 6, count 8192");
+/// Events with two fields out of range: a sample's fan and count; a transfer's address, and its bytes or the number
+/// that it clocks.
+fn bad_pairs(bench: &mut Bench) {
+    for fan in [0, 6, 255] {
+        for count in [8192, 65535] {
+            bench.sample(fan, count);
+        }
+    }
+    for address in [128, HOME + 128, 255] {
+        for kind in [send, clock] {
+            for (place, length) in [(0, 33), (0, 41), (40, 1), (41, 0), (9, 32), (LARGEST, 2)] {
+                bench.transfer(&kind(address, place, length), &sent());
+            }
+        }
+        for length in [0, 2, 32] {
+            bench.transfer(&clock(address, 1, length), &sent());
+        }
+        for place in [0, 4, 5] {
+            bench.transfer(&clock(address, place, 1), &sent());
+        }
+    }
+}
+
+fn field_cases(bench: &mut Bench) {
+    bench.title("10: address past 127; 5: fan 0 and 6; 9: count 8192");
     alerted(bench);
     bad_events(bench);
     bench.title(
-        "5: a transfer to an address past 127, over 32 bytes, not wholly within the log; \
+        "10: a transfer to an address past 127; 11: over 32 bytes, not wholly within the log; \
          a read of 0 or 2 bytes, 0 or 33 clocked",
     );
     bench.room(64);
     bad_transfers(bench);
+    bench.title("two fields at once: 5 before 9; 11 of the bytes before 10, 10 before 11 of the clocked number");
+    bad_pairs(bench);
 }
 
 fn taken_cases(bench: &mut Bench) {
@@ -123,9 +148,10 @@ fn refusal_6_cases(bench: &mut Bench) {
             bench.clock_at(address, 32);
         }
     }
-    bench.title("5 before 6");
+    bench.title("5, 9, 10 and 11 before 6, of two fields too");
     bad_events(bench);
     bad_transfers(bench);
+    bad_pairs(bench);
     bench.title("a refused power-on powers nothing; a good one does");
     bench.power_on_at(128);
     bench.ticks(1);
@@ -143,7 +169,7 @@ fn refusal_7_cases(bench: &mut Bench) {
         bench.send_to(address, &[0x30, 0x11, 0x22]);
         bench.clock_at(address, 1);
     }
-    bench.title("5 before 7, 7 before 8");
+    bench.title("11 before 7, 7 before 8");
     for address in [0, 127] {
         bench.send_to(address, &row(0, 1..33));
         bench.clock_at(address, 0);
@@ -180,10 +206,11 @@ fn refusal_8_cases(bench: &mut Bench) {
     bench.send(&[0x2A, 1]);
     bench.send(&[0x2A, 1, 2, 3]);
     bench.send(&row(0x30, 0..31));
-    bench.title("5 before 8");
+    bench.title("10 and 11 before 8, of two fields too");
     bench.clock(0);
     bench.clock(33);
     bench.transfer(&clock(HOME, 0, 2), &[1, 1]);
     bench.clock_at(HOME + 128, 1);
+    bad_pairs(bench);
     bench.room(1);
 }
