@@ -3,7 +3,7 @@ use model::chip::{
     Chip, Fan, SpinUp, Watch, CONFIGURATION_1, CONFIGURATION_2, MAX_STEP, READING_HIGH, SETTING, SPIN_UP, TARGET_HIGH,
     VALID_COUNT,
 };
-use model::log::{read, Event};
+use model::log::{read, Event, Fault};
 use std::collections::BTreeMap;
 
 /// A reply has at most so many bytes.
@@ -26,8 +26,28 @@ pub struct Coverage {
 }
 
 /// What is counted by name. Numbers, registers, periods and Spin Up settings have names of their own.
-const NAMES: [&str; 81] = [
+const NAMES: [&str; 101] = [
     // The log
+    "sample of fan 0",
+    "sample of a fan above 5",
+    "wish of fan 0",
+    "wish of a fan above 5",
+    "fan 6",
+    "count above 8191",
+    "count 8192",
+    "count above 8191, its low byte not 0",
+    "fan and count out of range",
+    "power-on address above 127",
+    "power-on address 128",
+    "read with n 1",
+    "read with n 3 to 33",
+    "read with n 33",
+    "read of 0 bytes",
+    "read of more than 32 bytes",
+    "read of 33 bytes",
+    "n other than 2 and a clocked number out of range",
+    "field out of range before power-on",
+    "read out of range from another address",
     "power-on while powered",
     "power-on at another address while powered",
     "0 ticks",
@@ -118,7 +138,7 @@ const NAMES: [&str; 81] = [
 impl Coverage {
     /// Nothing happened yet.
     pub fn none() -> Coverage {
-        let numbers = (0..=8).map(|number| format!("number {number}"));
+        let numbers = (0..=11).map(|number| format!("number {number}"));
         let periods = PERIODS.iter().map(|ticks| format!("update after {ticks} ticks"));
         let names = NAMES.iter().map(|name| name.to_string());
         Coverage {
@@ -168,7 +188,12 @@ impl Coverage {
                     place = next;
                 }
                 Ok(None) => return self.number(0),
-                Err(number) => return self.number(number),
+                Err(Fault { number, .. }) => {
+                    if matches!(number, 5 | 9..=11) {
+                        self.out_of_range(&chip, &log[place..]);
+                    }
+                    return self.number(number);
+                }
             }
         }
     }
@@ -239,6 +264,58 @@ impl Coverage {
             fan.spin_up.is_some() && count >= least,
         );
         self.by_stall[spin_up_setting(fan)] += u64::from(stall && closed(fan));
+    }
+}
+
+// ---- fields out of range ----
+
+impl Coverage {
+    /// A whole record that is refused by its fields; the log goes on behind it.
+    fn out_of_range(&mut self, chip: &Chip, log: &[u8]) {
+        self.count("field out of range before power-on", chip.address.is_none());
+        match (log[2], &log[4..4 + usize::from(log[3])]) {
+            (1, &[address]) => {
+                self.count("power-on address above 127", address > 127);
+                self.count("power-on address 128", address == 128);
+            }
+            (3, &[fan, low, high]) => self.bad_sample(fan, low, high),
+            (4, &[fan, _]) => {
+                self.count("wish of fan 0", fan == 0);
+                self.count("wish of a fan above 5", fan > 5);
+                self.count("fan 6", fan == 6);
+            }
+            (_, payload) => self.bad_read(chip, payload),
+        }
+    }
+
+    fn bad_sample(&mut self, fan: u8, low: u8, high: u8) {
+        let count = u16::from_le_bytes([low, high]);
+        let (bad_fan, bad_count) = (!(1..=5).contains(&fan), count > 8191);
+        self.count("sample of fan 0", fan == 0 && !bad_count);
+        self.count("sample of a fan above 5", fan > 5 && !bad_count);
+        self.count("fan 6", fan == 6);
+        self.count("count above 8191", !bad_fan && bad_count);
+        self.count("count 8192", !bad_fan && count == 8192);
+        self.count(
+            "count above 8191, its low byte not 0",
+            !bad_fan && bad_count && low != 0,
+        );
+        self.count("fan and count out of range", bad_fan && bad_count);
+    }
+
+    /// The payload of a read: the address byte, the clocked one where there is one, and others.
+    fn bad_read(&mut self, chip: &Chip, payload: &[u8]) {
+        let (n, clocked) = (payload.len(), payload.get(1).copied());
+        let bad = clocked.is_some_and(|clocked| !(1..=32).contains(&clocked));
+        self.count("read with n 1", n == 1);
+        self.count("read with n 3 to 33", n > 2 && !bad);
+        self.count("read with n 33", n == 33);
+        self.count("read of 0 bytes", n == 2 && clocked == Some(0));
+        self.count("read of more than 32 bytes", n == 2 && clocked > Some(32));
+        self.count("read of 33 bytes", n == 2 && clocked == Some(33));
+        self.count("n other than 2 and a clocked number out of range", n > 2 && bad);
+        let elsewhere = chip.address.is_some_and(|own| own != payload[0] >> 1);
+        self.count("read out of range from another address", elsewhere);
     }
 }
 

@@ -94,15 +94,15 @@ fn damaged(chance: &mut Chance) -> Vec<u8> {
     }
     let at = chance.pick(&starts);
     let byte = chance.byte();
-    match chance.below(9) {
+    match chance.below(12) {
         0 => log[at] = byte,
         1 => log[at + 1] = byte,
         2 => log[at + 2] = byte,
         3 => log[at + 3] = byte,
         4 => log[at + 3] = log[at + 3].wrapping_add(chance.pick(&[1, 0xFF])),
-        5 => out_of_range(&mut log, at, chance),
-        6 => log.insert(chance.between(at, log.len()), byte),
-        7 => drop(log.remove(chance.between(at, log.len() - 1))),
+        5..=8 => out_of_range(&mut log, at, chance),
+        9 => log.insert(chance.between(at, log.len()), byte),
+        10 => drop(log.remove(chance.between(at, log.len() - 1))),
         _ => {
             let at = chance.below(log.len());
             log[at] ^= 1 << chance.below(8);
@@ -111,25 +111,32 @@ fn damaged(chance: &mut Chance) -> Vec<u8> {
     log
 }
 
-/// In place of the record, one of the right layout with a field out of its range or just within it.
+/// In place of the record, one of the right layout with a field or two out of their ranges or just within them.
 fn out_of_range(log: &mut Vec<u8>, at: usize, chance: &mut Chance) {
-    let byte = chance.byte();
     let fan = chance.pick(&[0, 1, 5, 6, 0xFF]);
-    let (kind, payload) = match chance.below(7) {
+    let byte = chance.byte();
+    let (kind, payload) = match chance.below(6) {
         0 => (1, vec![chance.pick(&[0x7F, 0x80, 0xFF])]),
-        1 => (3, vec![fan, byte, 0x1F]),
-        2 => (3, vec![chance.pick(&[0, 1, 5]), byte, chance.pick(&[0x1F, 0x20, 0xFF])]),
-        3 => (4, vec![fan, byte]),
-        4 => (5, vec![0x59, chance.pick(&[0, 1, 32, 33, 0xFF])]),
-        5 => (5, vec![0x59]),
-        _ => {
-            let length = chance.between(3, 33);
-            let mut payload = chance.bytes(length);
-            payload[0] |= 1;
-            (5, payload)
+        1 | 2 => {
+            let [low, high] = [chance.pick(&[0x00, 0xFF, byte]), chance.pick(&[0x1F, 0x20, 0xFF])];
+            (3, vec![fan, low, high])
         }
+        3 => (4, vec![fan, byte]),
+        _ => (5, near_read(chance)),
     };
     let end = at + 4 + usize::from(log[at + 3]);
     let record = [&[MARK[0], MARK[1], kind, payload.len() as u8], &payload[..]].concat();
     log.splice(at..end, record);
+}
+
+/// The payload of a read from any address, with n or the clocked number out of range, both, or neither.
+fn near_read(chance: &mut Chance) -> Vec<u8> {
+    let other = chance.between(3, 33);
+    let n = chance.pick(&[1, 2, 2, 3, 33, other]);
+    let mut payload = chance.bytes(n);
+    payload[0] |= 1;
+    if let Some(clocked) = payload.get_mut(1) {
+        *clocked = chance.pick(&[0, 1, 32, 33, 0xFF]);
+    }
+    payload
 }
