@@ -2,7 +2,6 @@
 use crate::chance::Chance;
 use crate::subject::{Independent, Subject};
 use cobblehard::{Event, LONGEST_RECORD};
-use model::replay::Run;
 use std::fmt::Debug;
 
 /// Bytes around every lent buffer, which nobody may touch.
@@ -32,7 +31,8 @@ fn unequal<T: PartialEq + Debug>(what: String, expected: T, got: T) -> Option<St
     (expected != got).then(|| format!("{what}\n  independent model: {expected:X?}\n  compared:          {got:X?}"))
 }
 
-/// The four numbers and the whole buffer, with room for all replies and more, just enough, too little and none.
+/// The four numbers, the place of the fault and the whole buffer, with room for all replies and more, just enough, too
+/// little and none.
 fn runs(subject: &dyn Subject, log: &[u8]) -> Option<String> {
     let all = all_replies(log);
     let mut rooms = vec![all + 33, all, 0];
@@ -56,8 +56,8 @@ fn run_in(subject: &dyn Subject, log: &[u8], room: usize) -> Option<String> {
 
 /// How many reply bytes the log has.
 fn all_replies(log: &[u8]) -> usize {
-    let Run { reply_bytes, .. } = Independent.run(log, &mut vec![0; cobblehard::replies_room(log.len())]);
-    reply_bytes
+    let outcome = Independent.run(log, &mut vec![0; cobblehard::replies_room(log.len())]);
+    outcome.run.reply_bytes
 }
 
 /// The places to read at: those of the records, some between them, and past the end.

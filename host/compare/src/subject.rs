@@ -1,6 +1,8 @@
 //! What is compared with the independent model: anything that runs, reads, writes and lists.
-use cobblehard::Event;
+use cobblehard::{Event, Refusal};
+use model::log::Fault;
 use model::replay::Run;
+use std::fmt;
 use std::io::{self, Read, Write};
 use std::path::{Path, PathBuf};
 use std::process::{Command, Stdio};
@@ -11,13 +13,41 @@ use std::time::Duration;
 /// After this a program counts as hanging.
 const LONGEST_LISTING: Duration = Duration::from_secs(60);
 
-/// A reading: the event and the place after it, the end, or a number.
-pub type Reading<'a> = Result<Option<(Event<'a>, usize)>, u8>;
+/// A refusal: its number, and the place of the first faulty byte, which goes with those of reading alone.
+#[derive(Clone, Copy, PartialEq, Eq)]
+pub struct Refused {
+    pub number: u8,
+    pub fault: Option<usize>,
+}
+
+/// In decimal, also among bytes that are shown in hex.
+impl fmt::Debug for Refused {
+    fn fmt(&self, f: &mut fmt::Formatter<'_>) -> fmt::Result {
+        write!(f, "number {}, fault {:?}", self.number, self.fault)
+    }
+}
+
+/// What a run gives, and the place of the first faulty byte where reading stopped it.
+#[derive(Clone, Copy, PartialEq, Eq)]
+pub struct Outcome {
+    pub run: Run,
+    pub fault: Option<usize>,
+}
+
+/// In decimal too.
+impl fmt::Debug for Outcome {
+    fn fmt(&self, f: &mut fmt::Formatter<'_>) -> fmt::Result {
+        write!(f, "{:?}, fault {:?}", self.run, self.fault)
+    }
+}
+
+/// A reading: the event and the place after it, the end, or a refusal.
+pub type Reading<'a> = Result<Option<(Event<'a>, usize)>, Refused>;
 
 pub trait Subject {
-    fn run(&self, log: &[u8], replies: &mut [u8]) -> Run;
+    fn run(&self, log: &[u8], replies: &mut [u8]) -> Outcome;
     fn read<'a>(&self, log: &'a [u8], place: usize) -> Reading<'a>;
-    fn write(&self, event: &Event, out: &mut [u8]) -> Result<usize, u8>;
+    fn write(&self, event: &Event, out: &mut [u8]) -> Result<usize, Refused>;
     /// The lines, or in words what kept them from being listed.
     fn list(&self, log: &[u8]) -> Result<Vec<u8>, String>;
 }
@@ -26,18 +56,26 @@ pub trait Subject {
 pub struct Independent;
 
 impl Subject for Independent {
-    fn run(&self, log: &[u8], replies: &mut [u8]) -> Run {
-        model::replay::run(log, replies)
+    /// The fault is that of the record at the run's place: at the end, and where the room was short, that has none.
+    fn run(&self, log: &[u8], replies: &mut [u8]) -> Outcome {
+        let run = model::replay::run(log, replies);
+        let fault = model::log::read(log, run.place).err().map(|fault| fault.place);
+        Outcome { run, fault }
     }
 
     fn read<'a>(&self, log: &'a [u8], place: usize) -> Reading<'a> {
-        let reading = model::log::read(log, place)?;
-        Ok(reading.map(|(event, next)| (event_of(&event, log), next)))
+        match model::log::read(log, place) {
+            Ok(found) => Ok(found.map(|(event, next)| (event_of(&event, log), next))),
+            Err(Fault { number, place }) => Err(Refused {
+                number,
+                fault: Some(place),
+            }),
+        }
     }
 
-    fn write(&self, event: &Event, out: &mut [u8]) -> Result<usize, u8> {
+    fn write(&self, event: &Event, out: &mut [u8]) -> Result<usize, Refused> {
         let (event, log) = event_to(event);
-        model::log::write(&event, &log, out)
+        model::log::write(&event, &log, out).map_err(|number| Refused { number, fault: None })
     }
 
     fn list(&self, log: &[u8]) -> Result<Vec<u8>, String> {
@@ -118,26 +156,36 @@ impl Proved {
 }
 
 impl Subject for Proved {
-    fn run(&self, log: &[u8], replies: &mut [u8]) -> Run {
+    fn run(&self, log: &[u8], replies: &mut [u8]) -> Outcome {
         let run = cobblehard::run_into(log, replies);
-        Run {
-            number: run.number(),
-            place: run.place,
-            records: run.records,
-            reply_bytes: run.reply_bytes,
+        Outcome {
+            run: Run {
+                number: run.number(),
+                place: run.place,
+                records: run.records,
+                reply_bytes: run.reply_bytes,
+            },
+            fault: run.stop.and_then(|refusal| refusal.place()),
         }
     }
 
     fn read<'a>(&self, log: &'a [u8], place: usize) -> Reading<'a> {
-        cobblehard::read(log, place).map_err(|refusal| refusal as u8)
+        cobblehard::read(log, place).map_err(refused)
     }
 
-    fn write(&self, event: &Event, out: &mut [u8]) -> Result<usize, u8> {
-        event.write_to(out).map_err(|refusal| refusal as u8)
+    fn write(&self, event: &Event, out: &mut [u8]) -> Result<usize, Refused> {
+        event.write_to(out).map_err(refused)
     }
 
     fn list(&self, log: &[u8]) -> Result<Vec<u8>, String> {
         listed_by(&self.program, log).map_err(|error| format!("{}: {error}", self.program.display()))
+    }
+}
+
+fn refused(refusal: Refusal) -> Refused {
+    Refused {
+        number: refusal.number(),
+        fault: refusal.place(),
     }
 }
 
