@@ -20,7 +20,8 @@
 extern "C" {
 #endif
 
-/* Goes up whenever a function, a constant or what one answers changes. Version 1 had no macro, and gave 5 for what is 5, 9, 10 and 11 now. */
+/* Goes up whenever a function or a constant of this file changes, or what a function of the library answers. Version 1 had no macro, and gave
+ * 5 for what is 5, 9, 10 and 11 now. */
 #define COBBLEHARD_VERSION 2
 
 /* Numbers given back. A run walks on after 6 and 7, and no function here returns them. */
@@ -34,7 +35,7 @@ enum cobblehard_number {
     COBBLEHARD_NO_POWER = 6,       /* event before any power-on: any but a power-on */
     COBBLEHARD_ELSEWHERE = 7,      /* transfer to another address */
     COBBLEHARD_NO_ROOM = 8,        /* buffer too short: for the reply or record */
-    COBBLEHARD_WRONG_COUNT = 9,    /* count out of range: of a tach sample, above 8191 */
+    COBBLEHARD_WRONG_COUNT = 9,    /* count out of range: of a tach sample, above 8191; of a wish to be written, a drive above 255 */
     COBBLEHARD_WRONG_ADDRESS = 10, /* address out of range: above 127 */
     COBBLEHARD_WRONG_BYTES = 11    /* length or clocked number of a transfer out of range: a read's length byte is not 2, or its clocked
                                       number outside 1..32; of a transfer to be written also more than 32 bytes */

@@ -20,10 +20,20 @@ CASES = [
     ("no edit at all", None, 1, "0 tried apart"),
 ]
 
+GOOD = "file: src/lib.rt\nold: one\nnew: 1\n"
+
 trials.compare(
     "edits.py",
     [
         (name, {"crates/a/src/lib.rt": CODE, **({"tried/a/wrong.edit": edit} if edit else {})}, ["crates", "tried"], status, [line])
         for name, edit, status, line in CASES
+    ]
+    + [
+        (f"{name}, of the gate", {"crates/a/src/lib.rt": CODE, "crates/a/must-fail/wrong.edit": edit, "tried/a/good.edit": GOOD}, ["crates", "tried"], status, [line])
+        for name, edit, status, line in CASES
+        if edit and status
+    ]
+    + [
+        ("one of each", {"crates/a/src/lib.rt": CODE, "crates/a/must-fail/good.edit": GOOD, "tried/a/good.edit": GOOD}, ["crates", "tried"], 0, ["1 of the gate, 1 tried apart, 0 that do not fit"]),
     ],
 )

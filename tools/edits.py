@@ -1,10 +1,11 @@
 #!/usr/bin/env python3
-"""Checks that every edit of tests/tried still fits: each old text stands in its file exactly once when its turn comes, and the new one is another.
+"""Checks that every edit still fits, of must-fail/ and of tests/tried: each old text stands in its file exactly once when its turn comes, and the new
+one is another.
 
     tools/edits.py CRATES_FOLDER TRIED_FOLDER
 
-Nothing is proved here: `tools/tried` has the prover refuse them. Those of must-fail/ are checked where the gate tries them.
-Prints each edit that does not fit, then a count; exits 1 where there is one, or no edit at all.
+Nothing is proved here: the gate and `tools/tried` have the prover refuse them. It is here so that one that does not fit is found in a second.
+Prints each edit that does not fit, then a count; exits 1 where there is one, or no edit of tests/tried at all.
 """
 import pathlib
 import sys
@@ -43,12 +44,13 @@ def main():
     if len(sys.argv) != 3:
         sys.exit(__doc__)
     crates, tried = map(pathlib.Path, sys.argv[1:])
-    edits = sorted(tried.glob("*/*.edit"))
-    wrong = [(edit, fault) for edit in edits if (fault := misfit(crates / edit.parent.name, edit))]
+    gate = [(edit.parent.parent, edit) for edit in sorted(crates.glob("*/must-fail/*.edit"))]
+    apart = [(crates / edit.parent.name, edit) for edit in sorted(tried.glob("*/*.edit"))]
+    wrong = [(edit, fault) for crate, edit in gate + apart if (fault := misfit(crate, edit))]
     for edit, fault in wrong:
         print(f"{edit}: {fault}")
-    print(f"edits: {len(edits)} tried apart, {len(wrong)} that do not fit")
-    sys.exit(1 if wrong or not edits else 0)
+    print(f"edits: {len(gate)} of the gate, {len(apart)} tried apart, {len(wrong)} that do not fit")
+    sys.exit(1 if wrong or not apart else 0)
 
 
 if __name__ == "__main__":

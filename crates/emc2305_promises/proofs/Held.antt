@@ -14,7 +14,6 @@ use Rattle.laws.proofs.Tests.{by-test, and-left, and-right}
 use Rattle.eventlog.specs.declared.Event.{Event}
 use Rattle.eventlog.specs.declared.Event.the-variants.{Sample}
 use Rattle.eventlog.specs.Kinds.{replyLength}
-use Rattle.eventlog.specs.Range.{rangeNumber}
 use Rattle.eventlog.proofs.Ranges.{reply-small}
 use Rattle.emc2305_fan.specs.declared.Bit.{Bit}
 use Rattle.emc2305_fan.specs.declared.Bit.the-variants.{Stall, Spin}
@@ -39,7 +38,7 @@ use Rattle.emc2305.specs.Traffic.{isSampleOf}
 use Rattle.emc2305.proofs.Effects.{by-effect}
 use Rattle.emc2305.proofs.FansKept.{five-fans}
 use Rattle.walks.specs.Sequence.{Handed}
-use Rattle.emc2305_promises.specs.Ramp.{next, isTaken, afterAll, throughout, fanOf, noPowerOn, noStoredWrite}
+use Rattle.emc2305_promises.specs.Ramp.{next, afterAll, fanOf, noPowerOn, noStoredWrite}
 use Rattle.emc2305_promises.specs.Held.{registerFor, replyByte, Reads, readsAmong, noReadOf, noSampleOf, noGoodSample, held, HeldRotor, leftAlone, driven, ticksCanSet, HeldSame, unread, RotorTurns}
 use Rattle.emc2305_promises.proofs.Events.{by-taken}
 use Rattle.emc2305_promises.proofs.OwnBytes.{reads-count}

@@ -1,5 +1,5 @@
 -- What becomes of a fan to which nothing is done: no power-on, no sample of it, no stored write to its registers (specs/Held.antt).
-use mathlib.Core.Path.{_≡_, refl, sym, ap, subst, _∙_}
+use mathlib.Core.Path.{_≡_, sym, ap, subst, _∙_}
 use mathlib.Core.Bool.{Bool, true, false, not, _&&_, true≢false}
 use mathlib.Core.List.{List, [], _∷_}
 use Prim.Native.Nat.{ℕ, zero, suc, _+_, _-_, _<_}
@@ -10,7 +10,7 @@ use borrow.Author.Tests.{leb-true, eqb-true, eqb-false, not-true}
 use Rattle.laws.specs.Repeat.{repeated}
 use Rattle.laws.proofs.Tests.{by-test, and-left, and-right}
 use Rattle.eventlog.specs.declared.Event.{Event}
-use Rattle.eventlog.specs.declared.Event.the-variants.{PowerOn, Ticks, Sample, Wish, Transfer}
+use Rattle.eventlog.specs.declared.Event.the-variants.{PowerOn, Sample, Wish, Transfer}
 use Rattle.eventlog.specs.Kinds.{isPowerOn, replyLength}
 use Rattle.eventlog.specs.Range.{fanInRange, rangeNumber}
 use Rattle.eventlog.proofs.Ranges.{fan-right}
@@ -37,7 +37,7 @@ use Rattle.walks.proofs.Sequences.{first-rest}
 use Rattle.emc2305_run.specs.Device.{emc2305}
 use Rattle.emc2305_promises.specs.Ramp.{next, isTaken, afterAll, throughout, fanOf, noPowerOn, noStoredWrite}
 use Rattle.emc2305_promises.specs.Held.{noSampleOf, leftAlone}
-use Rattle.emc2305_promises.proofs.Events.{same-fan, by-taken}
+use Rattle.emc2305_promises.proofs.Events.{by-taken}
 
 -- what ticks, the watchdog and a wish keep of a fan
 pub record Kept (P : Fan → Type 0) : Type 0 where

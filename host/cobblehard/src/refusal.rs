@@ -2,8 +2,9 @@
 use std::error::Error;
 use std::fmt;
 
-/// Why an event, a record or a run was refused.
+/// Why an event, a record or a run was refused. A later version may have more.
 #[derive(Clone, Copy, Debug, PartialEq, Eq, Hash)]
+#[non_exhaustive]
 #[repr(u8)]
 pub enum Reason {
     EndsInsideRecord = 1,
