@@ -109,9 +109,9 @@ impl Refusal {
 
 impl fmt::Display for Refusal {
     fn fmt(&self, f: &mut fmt::Formatter<'_>) -> fmt::Result {
-        f.write_str(self.words())?;
+        write!(f, "refused with {}, {}", self.number(), self.words())?;
         match self.place {
-            Some(place) => write!(f, " at byte {place}"),
+            Some(place) => write!(f, ", at byte {place}"),
             None => Ok(()),
         }
     }

@@ -420,15 +420,15 @@ fn refusals_in_words() {
         (of_reading.reason(), of_reading.words()),
         (Reason::WrongCount, "count out of range")
     );
-    assert_eq!(of_reading.to_string(), "count out of range at byte 5");
+    assert_eq!(of_reading.to_string(), "refused with 9, count out of range, at byte 5");
     let of_writing = Event::Wish { fan: 6, drive: 0 }.append_to(&mut Vec::new()).unwrap_err();
     assert_eq!(
         (of_writing.reason(), of_writing.words()),
         (Reason::WrongFan, "no such fan")
     );
-    assert_eq!(of_writing.to_string(), "no such fan");
+    assert_eq!(of_writing.to_string(), "refused with 5, no such fan");
     let error: Box<dyn Error + Send + Sync> = Box::new(run_into(&LOG, &mut []).stop.unwrap());
-    assert_eq!(error.to_string(), "buffer too short");
+    assert_eq!(error.to_string(), "refused with 8, buffer too short");
 }
 
 /// The lines of the header between one that begins so and the brace that closes it.
