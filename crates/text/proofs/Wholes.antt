@@ -1,5 +1,5 @@
 -- A text laid whole or not at all, and in what is left of a buffer.
-use mathlib.Core.Path.{_≡_, refl, sym, ap, _∙_}
+use mathlib.Core.Path.{_≡_, refl, sym, ap, subst, _∙_}
 use mathlib.Core.Bool.{true, false}
 use mathlib.Core.List.{List, [], _∷_, _++_}
 use Prim.Native.Nat.{ℕ, _+_, _≤_, _<_}
@@ -24,6 +24,10 @@ module _ (text out : List ℕ) where
 
   pub nothing : length out < length text → Whole text out (record { fits = false; len = 0 }) out
   nothing h = let f = lt-leb (length text) (length out) h in (rw f refl, rw f refl)
+
+-- the same text, said in another way
+pub as-text : (text other out : List ℕ) (p : Piece) (last : List ℕ) → text ≡ other → Whole text out p last → Whole other out p last
+as-text text other out p last e w = subst (λ (l : List ℕ). Whole l out p last) e w
 
 -- what an answer says
 module _ (text : List ℕ) (room : ℕ) (p : Piece) (is : p ≡ pieceOf text room) where

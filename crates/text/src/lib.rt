@@ -1,12 +1,14 @@
-// The text of a listing, in ASCII (document 01, 'Numbers given back'). Each function lays a text whole at the front of a buffer where it fits, or
+// The text of a listing and of a report, in ASCII (document 01, 'Numbers given back'). Each function lays a text whole at the front of a buffer where it fits, or
 // nothing: a text's length is known before its first byte is laid.
 mod hex;
 mod numbers;
+mod rows;
 
 ghost use mathlib.Core.Path.{_≡_};
+ghost use mathlib.Core.List.{_++_};
 ghost use Prim.Native.Nat.{_≤_};
 ghost use lib.ListN.{length};
-ghost use Rattle.text.specs.Text.{decimal, lineOf, lastLine, closing};
+ghost use Rattle.text.specs.Text.{decimal, lineOf, closing, rowRest, rowOf, reportEnd};
 ghost use Rattle.text.specs.Whole.{pieceOf, laidWhole};
 
 // What became of a text: whether it fitted and was laid, and how many bytes that were, 0 where it did not.
@@ -59,7 +61,7 @@ pub fn closing(place: u64, number: u8, out: &mut [u8]) -> Piece
     ensures { λ r. ⌜ (r ≡ pieceOf (closing place number) (length (now (out .entry)))) × (now (out .exit) ≡ laidWhole (closing place number) (now (out .entry))) ⌝ }
 {
     if number == 0 {
-        return last_line(b"end ", place, out);
+        return worded_row(b"end ", place, &[], out);
     }
     // Both lines or none: two places, a number, `stop`, two spaces and two line ends.
     if out.len() < 2 * numbers::digits(place) + numbers::digits(number as u64) + 8 {
@@ -67,25 +69,42 @@ pub fn closing(place: u64, number: u8, out: &mut [u8]) -> Piece
     }
     let first = line(place, number, b"", out);
     let at = first.len;
-    let last = last_line(b"stop ", place, &mut out[at..]);
+    let last = worded_row(b"stop ", place, &[], &mut out[at..]);
     let len = at + last.len;
     Piece { fits: true, len }
 }
 
-// A last line: a short word, with the space behind it, and the place.
-fn last_line(word: &[u8], place: u64, out: &mut [u8]) -> Piece
-    requires { ⌜ length (now word) ≤ 8 ⌝ }
-    ensures { λ r. ⌜ (r ≡ pieceOf (lastLine (now (word .entry)) place) (length (now (out .entry)))) × (now (out .exit) ≡ laidWhole (lastLine (now (word .entry)) place) (now (out .entry))) ⌝ }
+// A row of numbers in decimal, with a space between.
+pub fn row(first: u64, rest: &[u64], out: &mut [u8]) -> Piece
+    ensures { λ r. ⌜ (r ≡ pieceOf (rowOf first (now (rest .entry))) (length (now (out .entry)))) × (now (out .exit) ≡ laidWhole (rowOf first (now (rest .entry))) (now (out .entry))) ⌝ }
 {
-    let width = numbers::digits(place);
+    worded_row(b"", first, rest, out)
+}
+
+// The last line of a report: `end PLACE` where the number is 0, else `stop PLACE NUMBER`.
+pub fn report_end(place: u64, number: u8, out: &mut [u8]) -> Piece
+    ensures { λ r. ⌜ (r ≡ pieceOf (reportEnd place number) (length (now (out .entry)))) × (now (out .exit) ≡ laidWhole (reportEnd place number) (now (out .entry))) ⌝ }
+{
+    if number == 0 {
+        worded_row(b"end ", place, &[], out)
+    } else {
+        worded_row(b"stop ", place, &[number as u64], out)
+    }
+}
+
+// A short word, with the space behind it, and a row.
+fn worded_row(word: &[u8], first: u64, rest: &[u64], out: &mut [u8]) -> Piece
+    requires { ⌜ length (now word) ≤ 8 ⌝ }
+    ensures { λ r. ⌜ (r ≡ pieceOf (now (word .entry) ++ decimal first ++ rowRest (now (rest .entry))) (length (now (out .entry)))) × (now (out .exit) ≡ laidWhole (now (word .entry) ++ decimal first ++ rowRest (now (rest .entry))) (now (out .entry))) ⌝ }
+{
+    let width = numbers::digits(first);
     let at = word.len();
     let end = at + width;
-    if out.len() <= end {
+    if out.len() < end || !rows::fits(rest, out.len() - end) {
         return NOTHING;
     }
     bytes::copy(word, out);
-    numbers::lay_digits(place, width, &mut out[at..]);
-    out[end] = b'\n';
-    let len = end + 1;
+    numbers::lay_digits(first, width, &mut out[at..]);
+    let len = end + rows::lay(rest, &mut out[end..]);
     Piece { fits: true, len }
 }

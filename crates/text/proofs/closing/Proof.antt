@@ -6,29 +6,34 @@ use native.Mathlib.Omega.{arith}
 use lib.ListN.{length, length-append}
 use borrow.Author.Needs.{needs}
 use borrow.Author.Tests.{eq-eqb, ne-eqb, le-leb}
-use Rattle.laws.proofs.Buffer.{backFrom}
-use Rattle.text.specs.Text.{lineOf, stopLine}
+use Rattle.laws.proofs.Buffer.{lentFrom, backFrom}
+use Rattle.text.specs.Text.{lineOf, endWord, stopWord, stopLine}
 use Rattle.text.proofs.Lengths.{decimal-short}
-use Rattle.text.proofs.Lines.{closing-counts}
+use Rattle.text.proofs.Lines.{last-pieces, closing-counts}
 use Rattle.laws.proofs.Laid.{Laid}
 use Rattle.laws.proofs.Laid as texts
-use Rattle.text.proofs.Wholes.{nothing, whole, laid-whole, says-fits, taken}
+use Rattle.text.proofs.Wholes.{nothing, whole, as-text, laid-whole, says-fits, taken}
 use Rattle.text.proofs.closing.Statement.{statement}
 use Rattle.text.proofs.closing.Tie as tie
 
-slice-aggregate-last-line : tie.Need-slice-aggregate-last-line
-slice-aggregate-last-line c = search needs
+slice-aggregate-worded-row : tie.Need-slice-aggregate-worded-row
+slice-aggregate-worded-row c = search needs
 
-last-line-requires : tie.Need-last-line-requires
-last-line-requires c κs = search needs
+slice-aggregate-worded-row-2 : tie.Need-slice-aggregate-worded-row-2
+slice-aggregate-worded-row-2 c = search needs
+
+worded-row-requires : tie.Need-worded-row-requires
+worded-row-requires c κs = search needs
 
 same-length : tie.Need-same-length
 same-length c = search needs
 
 returns : tie.Need-returns
 returns c =
-    let b5 = c .before .before .before .before .before in
-    rw (eq-eqb _ 0 (b5 .if1 .taken)) (c .before .before .last-line .ensures)
+    let b6 = c .before .before .before .before .before .before in
+    let a = b6 .before .before .args in
+    rw (eq-eqb (a .number) 0 (b6 .if1 .taken))
+    (as-text _ _ (a .out .now) _ _ (last-pieces (a .place) (search needs) endWord) (c .before .before .worded-row .ensures))
 
 digits-requires : tie.Need-digits-requires
 digits-requires c κs = search needs
@@ -58,8 +63,11 @@ slice-aggregate-line c = search needs
 line-requires : tie.Need-line-requires
 line-requires c κs = search needs
 
-slice-aggregate-last-line-2 : tie.Need-slice-aggregate-last-line-2
-slice-aggregate-last-line-2 c = search needs
+slice-aggregate-worded-row-3 : tie.Need-slice-aggregate-worded-row-3
+slice-aggregate-worded-row-3 c = search needs
+
+slice-aggregate-worded-row-4 : tie.Need-slice-aggregate-worded-row-4
+slice-aggregate-worded-row-4 c = search needs
 
 -- both lines fit, and the first is laid
 abbrev entered : tie.After-line → tie.Start
@@ -86,28 +94,28 @@ lined c = laid-whole (first c) (out c) _ _ (c .line .ensures) (first-fits c)
 first-within : (c : tie.After-line) → c .line .result .len ≤ length (out c)
 first-within c = omega (arith, lined c .counts, first-fits c)
 
-sub-last-line : tie.Need-sub-last-line
-sub-last-line c = let l = c .before .before .before in omega (arith, texts.same-length _ _ _ _ (lined l) (first-within l), first-within l)
+sub-worded-row : tie.Need-sub-worded-row
+sub-worded-row c = let l = c .before .before .before .before in omega (arith, texts.same-length _ _ _ _ (lined l) (first-within l), first-within l)
 
-part-last-line-start : tie.Need-part-last-line-start
-part-last-line-start c = let l = c .before .before .before in omega (arith, texts.same-length _ _ _ _ (lined l) (first-within l), first-within l)
+part-worded-row-start : tie.Need-part-worded-row-start
+part-worded-row-start c = let l = c .before .before .before .before in omega (arith, texts.same-length _ _ _ _ (lined l) (first-within l), first-within l)
 
-part-last-line-end : tie.Need-part-last-line-end
-part-last-line-end c = search needs
+part-worded-row-end : tie.Need-part-worded-row-end
+part-worded-row-end c = search needs
 
-last-line-requires-2 : tie.Need-last-line-requires-2
-last-line-requires-2 c κs = search needs
+worded-row-requires-2 : tie.Need-worded-row-requires-2
+worded-row-requires-2 c κs = search needs
 
 -- then the second behind it
 abbrev before : tie.After-struct-known → tie.After-line
-before c = c .before .before .before .before .before .before .before .before
+before c = c .before .before .before .before .before .before .before .before .before
 
 stopped : (c : tie.After-struct-known)
-    → Laid (out (before c)) (backFrom (before c .line .result .len) (before c .line .last .1 .1 .1 .0) (c .before .before .before .last-line2 .last .1 .1 .0))
-    (before c .line .result .len + c .before .before .before .last-line2 .result .len) (first (before c) ++ second (before c))
+    → Laid (out (before c)) (backFrom (before c .line .result .len) (before c .line .last .1 .1 .1 .0) (c .before .before .before .worded-row2 .last .1 .1 .1 .0))
+    (before c .line .result .len + c .before .before .before .worded-row2 .result .len) (first (before c) ++ second (before c))
 stopped c =
     let l = before c in
-    let w = c .before .before .before .last-line2 .ensures in
+    let w = as-text _ _ (lentFrom (l .line .result .len) (l .line .last .1 .1 .1 .0)) _ _ (last-pieces (entered l .args .place) (search needs) stopWord) (c .before .before .before .worded-row2 .ensures) in
     taken _ _ _ _ (lined l) (first-within l) (second l) _ _ w
     (says-fits _ _ _ _ (lined l) (first-within l) (second l) _ _ w ∙ le-leb _ _ (rw (length-append (first l) (second l)) at (both-fit l)))
 
@@ -127,8 +135,9 @@ pub closing-spec : {M : Type 1} → statement M
 closing-spec =
     tie.close
     (tie.spec
-    slice-aggregate-last-line
-    last-line-requires
+    slice-aggregate-worded-row
+    slice-aggregate-worded-row-2
+    worded-row-requires
     same-length
     returns
     digits-requires
@@ -139,11 +148,12 @@ closing-spec =
     returns-2
     slice-aggregate-line
     line-requires
-    slice-aggregate-last-line-2
-    sub-last-line
-    part-last-line-start
-    part-last-line-end
-    last-line-requires-2
+    slice-aggregate-worded-row-3
+    slice-aggregate-worded-row-4
+    sub-worded-row
+    part-worded-row-start
+    part-worded-row-end
+    worded-row-requires-2
     add-len
     same-length-2
     returns-3)
