@@ -1,0 +1,1 @@
+-- What is promised of a report. docs/CLAIMS.md names the file of each proof.
