@@ -4,12 +4,12 @@ use mathlib.Core.Bool.{true}
 use mathlib.Core.List.{[], _∷_}
 use Prim.Native.Nat.{ℕ, _-_, _*_, _/_, _%_, _≤_}
 use native.Mathlib.Omega.{arith}
-use native.Mathlib.Nat.{mul-le-mul}
+use native.Mathlib.Nat.{mul-le-mul, div-le-self}
 use lib.Dec.{leb}
 use borrow.Author.Tests.{leb-true}
 use Rattle.laws.proofs.Tables.{entry}
 use Rattle.laws.proofs.Tests.{and-left, and-right}
-use Rattle.emc2305_speed.specs.Speed.{polesRight, multiplier, edges}
+use Rattle.emc2305_speed.specs.Speed.{polesRight, multiplier, edges, rpm}
 
 module _ (configuration : ℕ) where
   edges-least : 3 ≤ edges configuration
@@ -41,6 +41,11 @@ module _ (configuration : ℕ) where
   clocks-most =
       let h : clocks ≤ 15728640 * 8 = mul-le-mul (some-edges .1) multiplier-most in
       omega (arith, h)
+
+-- no speed is greater, whatever it is divided by
+pub rpm-most : (poles configuration count : ℕ) → rpm poles configuration count ≤ 125829120
+unfolding rpm
+rpm-most poles configuration count = omega (arith, clocks-most configuration, div-le-self (clocks configuration) (poles * count))
 
 -- poles in range
 pub poles-range : (poles : ℕ) → polesRight poles ≡ true → (1 ≤ poles) × (poles ≤ 4)

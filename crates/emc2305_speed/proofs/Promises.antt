@@ -1,12 +1,12 @@
 -- The promises of the speed of one sample (specs/Promises.antt).
-use mathlib.Core.Path.{_≡_, refl, sym, ap, _∙_}
-use Prim.Native.Nat.{ℕ, _+_, _*_, _/_, _≤_, _<_}
+use mathlib.Core.Path.{_≡_, sym, ap, _∙_}
+use Prim.Native.Nat.{ℕ, _+_, _*_, _/_, _≤_}
 use native.Mathlib.Omega.{arith}
-use native.Mathlib.Nat.{mul-le-mul, mul-comm, mul-one, one-mul, le-div-iff-mul-le, div-lt-iff-lt-mul, div-le-of-le-mul, div-div-eq-div-mul, mul-div-mul-left}
+use native.Mathlib.Nat.{mul-le-mul, mul-comm, one-mul, le-div-iff-mul-le, div-div-eq-div-mul, mul-div-mul-left}
 use borrow.Author.Tests.{ne-eqb}
 use Rattle.emc2305_speed.specs.Speed.{rpm, rpmByHighByte}
 use Rattle.emc2305_speed.specs.Promises.{SpeedRange, Slower, Poles, HighBytes}
-use Rattle.emc2305_speed.proofs.Factors.{clocks, clocks-least, clocks-most}
+use Rattle.emc2305_speed.proofs.Factors.{clocks, clocks-least, rpm-most}
 
 -- a smaller divisor never gives a smaller quotient
 smaller-divisor : (n d e : ℕ) → 1 ≤ d → d ≤ e → n / e ≤ n / d
@@ -22,8 +22,7 @@ speed-range poles configuration count p q h l =
     let few = mul-le-mul q l in
     let least = le-div-iff-mul-le {k = poles * count} {x = 120} {y = clocks configuration} (omega (arith, some)) in (
       least .1 (omega (arith, few, clocks-least configuration)),
-      div-le-of-le-mul (poles * count)
-          (omega (arith, clocks-most configuration, mul-le-mul {n₁ = 1} {m₁ = 125829120} {n₂ = poles * count} {m₂ = 125829120} (omega (arith, some)) (omega arith))),
+      rpm-most poles configuration count,
     )
 
 pub slower : Slower

@@ -1,5 +1,5 @@
 -- A report tells nothing before its end: a call lays the text of where it comes to, or waits for more.
-use mathlib.Core.Path.{_≡_, refl, sym, ap, _∙_}
+use mathlib.Core.Path.{_≡_, refl, subst, _∙_}
 use mathlib.Core.Bool.{Bool, true, false, cond, not, _&&_}
 use mathlib.Core.List.{List, [], _∷_, _++_}
 use Prim.Native.Nat.{ℕ, _+_, _-_, _%_, _^_, _≤_}
@@ -27,6 +27,7 @@ use Rattle.windows.proofs.Tellings.{toldAt, told-none, told-record}
 use Rattle.reports.specs.Lines.{reportText}
 use Rattle.reports.specs.Samples.{Gauge}
 use Rattle.reports.specs.Adding.{Reported, pastLimit, report, Come, comeOver, comeFrom}
+use Rattle.reports.proofs.Tellers.{text-there}
 
 module _ (g : Gauge) where
   -- the text of where a report comes to
@@ -98,10 +99,10 @@ module _ (g : Gauge) where
     unfolding answered outAfter
     waits-called w = record { answers = rw (called-is, w, stands) refl; lays = rw (called-is, w) refl }
 
-    pub lays-called : waits ended (readAt window (c .place)) ≡ false → (fits : Bool) (len : ℕ) (last : List ℕ) → Fitted (textAt first c) out fits len last
+    lays-so : waits ended (readAt window (c .place)) ≡ false → (fits : Bool) (len : ℕ) (last : List ℕ) → Fitted (textAt first c) out fits len last
         → (wants : Wants) → wants ≡ wantsLast fits → Called (report g) r first window ended out (c .reported) place (c .place) len wants last
     unfolding answered outAfter
-    lays-called w fits len last fitted wants so =
+    lays-so w fits len last fitted wants so =
         by-test (leb (length (textAt first c)) (length out))
         (λ y.
         record {
@@ -113,3 +114,11 @@ module _ (g : Gauge) where
           answers = rw (called-is, w, sub-zero (length out), stands, so, fitted .fits-is, fitted .len-is, n) refl;
           lays = fitted .lays ∙ rw (called-is, w, sub-zero (length out), n) refl;
         })
+
+    -- the text goes by the place as a 64-bit number
+    pub lays-called : waits ended (readAt window (c .place)) ≡ false → (fits : Bool) (len : ℕ) (last : List ℕ)
+        → Fitted (reportText (c .reported .fans) place (c .number)) out fits len last → (wants : Wants) → wants ≡ wantsLast fits
+        → Called (report g) r first window ended out (c .reported) place (c .place) len wants last
+    lays-called w fits len last fitted =
+        let same : reportText (c .reported .fans) place (c .number) ≡ textAt first c = rw stands (text-there (c .reported .fans) (first + c .place) (c .number)) in
+        lays-so w fits len last (subst (λ (text : List ℕ). Fitted text out fits len last) same fitted)

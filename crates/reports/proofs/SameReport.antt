@@ -213,3 +213,11 @@ module _ (g : Gauge) (fits : (configuration count : ℕ) → g .speed configurat
   pub comes-whole : comeFrom g log 0 0 (report g .begun) ≡ comeTo (reported g log)
   unfolding recordsOf placeAfter figuresOf list.speeds list.zeroCounts list.least list.greatest list.sum stateAfter samplesFrom each
   comes-whole = comes 0 [] refl refl refl
+
+  -- so what a walk over the whole log comes to is the report
+  pub report-is : (number place records : ℕ) (state : g .device .State) (figures : List Figures)
+      → record { number = number; place = place; records = records; reported = record { state = state; fans = figures } } ≡ comeFrom g log 0 0 (report g .begun)
+      → record { number = number; place = place; records = records; fans = figures } ≡ reportOf g log
+  unfolding reportOf
+  report-is number place records state figures e =
+      ap (λ (c : Come g). record { number = c .number; place = c .place; records = c .records; fans = c .reported .fans }) (e ∙ comes-whole)

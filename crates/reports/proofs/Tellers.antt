@@ -30,7 +30,7 @@ same-sample other of a b e f same = sym (shown a e) ∙ ap (λ (s : Said). onSam
     shown log event =
         by-transfer event (λ reads address place n is. rw is refl) (λ no. rw (no-transfer (itself event) _ event no) refl)
 
-text-there : (fans : List Figures) (place number : ℕ) → reportText fans (place % 2 ^ 64) number ≡ reportText fans place number
+pub text-there : (fans : List Figures) (place number : ℕ) → reportText fans (place % 2 ^ 64) number ≡ reportText fans place number
 unfolding reportText
 text-there fans place number = rw (report-end-there (place % 2 ^ 64) place number refl) refl
 

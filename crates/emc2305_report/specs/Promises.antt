@@ -1,0 +1,1 @@
+-- What is promised of the EMC2305's report of speeds.
