@@ -1,3 +1,4 @@
 pub mod Asked
 pub mod Promises
 pub mod Fault
+pub mod Figures
