@@ -6,3 +6,4 @@ pub mod chip;
 pub mod listing;
 pub mod log;
 pub mod replay;
+pub mod speeds;
