@@ -10,6 +10,7 @@ mod library;
 mod logs;
 mod program;
 mod script;
+mod windows;
 
 use script::Script;
 use std::io::{self, Write};

@@ -2,27 +2,28 @@
 //! log in hex; its line is the listing in hex.
 
 use crate::chance::Chance;
-use crate::emc2305::HOME;
 use crate::events::LONGEST_RECORD;
 use crate::logs::{
-    clock, endings, example, other_addresses, power_on, power_on_at, random_logs, sample, send, send_to, short, stops,
-    sweep, ticks, traffic, truncations, unpowered, wish,
+    clock, example, other_addresses, power_on, power_on_at, random_logs, sample, send, short, stops, sweep, ticks,
+    traffic, truncations, unpowered, wish,
 };
 use crate::script::{bytes, hex, Script};
+use crate::windows::{damaged, filler, in_pieces, WINDOW};
 use model::listing::list;
 use model::log::MARK;
-
-/// The program's buffer.
-const WINDOW: usize = 65536;
 
 pub fn script() -> Script {
     let mut script = Script::default();
     short_logs(&mut script);
     edge_logs(&mut script);
-    damage_logs(&mut script);
+    for (name, log) in damaged(&short()) {
+        add(&mut script, &name, &log);
+    }
     let long = long_log();
     add(&mut script, "a long log", &long);
-    logs_in_pieces(&mut script, &long);
+    for (name, log) in in_pieces(&short(), &long, &longest_writes()) {
+        add(&mut script, name, &log);
+    }
     script
 }
 
@@ -85,23 +86,6 @@ fn short_logs(script: &mut Script) {
 
 // ---- logs that are longer than the window ----
 
-/// Whole records of so many bytes: a power-on, then writes to another address, of bytes that look like records.
-fn filler(length: usize) -> Vec<u8> {
-    const EMPTY_WRITE: usize = 5;
-    let mut log = power_on();
-    let sent = [MARK, [2, 2]].concat().repeat(8);
-    while log.len() < length {
-        let left = length - log.len();
-        let size = if left <= LONGEST_RECORD {
-            left
-        } else {
-            LONGEST_RECORD.min(left - EMPTY_WRITE)
-        };
-        log.extend(send_to(HOME + 1, &sent[..size - EMPTY_WRITE]));
-    }
-    log
-}
-
 /// The longest writes, with what they wrote.
 fn longest_writes() -> Vec<u8> {
     let sent: Vec<u8> = std::iter::once(0x30).chain(0x41..0x60).collect();
@@ -137,29 +121,6 @@ fn edge_logs(script: &mut Script) {
     }
 }
 
-/// Damage at the edge, and logs that end there, inside a record or whole.
-fn damage_logs(script: &mut Script) {
-    for offset in 0..6 {
-        let before = filler(WINDOW - offset);
-        for (number, endings) in endings().into_iter().skip(1) {
-            let damage = endings.last().expect("a number has endings");
-            let log = [&before, damage, &short()[..]].concat();
-            add(script, &format!("{number} at {offset} bytes before the edge"), &log);
-        }
-    }
-    let sent: Vec<u8> = (0..32).collect();
-    for offset in [1, 2, 3, 4, 5, 36] {
-        for length in [WINDOW - 1, WINDOW, WINDOW + 1] {
-            let log = [filler(WINDOW - offset), send(&sent)].concat();
-            let name = format!("{offset} bytes before the edge, cut at {length}");
-            add(script, &name, &log[..length.min(log.len())]);
-        }
-    }
-    for length in [WINDOW - 1, WINDOW, WINDOW + 1, 2 * WINDOW] {
-        add(script, &format!("whole records of {length} bytes"), &filler(length));
-    }
-}
-
 /// Some 300 kB with thousands of the longest replies.
 fn long_log() -> Vec<u8> {
     let chance = Chance::new(65536);
@@ -177,19 +138,6 @@ fn long_log() -> Vec<u8> {
         }
     }
     log
-}
-
-/// Logs that the test hands over in pieces, whose sizes it knows by these names.
-fn logs_in_pieces(script: &mut Script, long: &[u8]) {
-    let short = short();
-    add(script, "a byte at a time", &short);
-    let stopped = [&short[..], &bytes("9C47")].concat();
-    add(script, "a byte at a time, with a stop", &stopped);
-    add(script, "a byte at a time, cut", &short[..short.len() - 1]);
-    add(script, "odd pieces", long);
-    add(script, "large pieces", long);
-    let across = [filler(WINDOW - 20), longest_writes(), short].concat();
-    add(script, "a piece that ends inside a record", &across);
 }
 
 #[cfg(test)]
