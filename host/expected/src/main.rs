@@ -10,13 +10,14 @@ mod library;
 mod logs;
 mod program;
 mod script;
+mod speeds;
 mod windows;
 
 use script::Script;
 use std::io::{self, Write};
 use std::process::ExitCode;
 
-const USAGE: &str = "usage: expected eventlog|emc2305_fan|emc2305|library|program cases|lines";
+const USAGE: &str = "usage: expected eventlog|emc2305_fan|emc2305|library|program|speeds cases|lines";
 
 fn main() -> ExitCode {
     let words: Vec<String> = std::env::args().skip(1).collect();
@@ -53,6 +54,7 @@ fn script_of(test: &str) -> Option<Script> {
         "emc2305" => Some(emc2305::script()),
         "library" => Some(library::script()),
         "program" => Some(program::script()),
+        "speeds" => Some(speeds::script()),
         _ => None,
     }
 }

@@ -16,7 +16,7 @@ pub fn script() -> Script {
     let mut script = Script::default();
     short_logs(&mut script);
     edge_logs(&mut script);
-    for (name, log) in damaged(&short()) {
+    for (name, log) in damaged(&[], &short()) {
         add(&mut script, &name, &log);
     }
     let long = long_log();

@@ -26,11 +26,13 @@ pub fn filler(length: usize) -> Vec<u8> {
     log
 }
 
-/// Damage at the edge of the window, before other records, and logs that end there, inside a record or whole.
-pub fn damaged(after: &[u8]) -> Vec<(String, Vec<u8>)> {
+/// Damage at the edge of the window, behind some records and before others, and logs that end there, inside a record or
+/// whole.
+pub fn damaged(before: &[u8], after: &[u8]) -> Vec<(String, Vec<u8>)> {
+    let filled = |length| [before, &filler(length - before.len())].concat();
     let mut logs = Vec::new();
     for offset in 0..6 {
-        let before = filler(WINDOW - offset);
+        let before = filled(WINDOW - offset);
         for (number, endings) in endings().into_iter().skip(1) {
             let damage = endings.last().expect("a number has endings");
             let name = format!("{number} at {offset} bytes before the edge");
@@ -40,13 +42,13 @@ pub fn damaged(after: &[u8]) -> Vec<(String, Vec<u8>)> {
     let sent: Vec<u8> = (0..32).collect();
     for offset in [1, 2, 3, 4, 5, 36] {
         for length in [WINDOW - 1, WINDOW, WINDOW + 1] {
-            let mut log = [filler(WINDOW - offset), send(&sent)].concat();
+            let mut log = [filled(WINDOW - offset), send(&sent)].concat();
             log.truncate(length);
             logs.push((format!("{offset} bytes before the edge, cut at {length}"), log));
         }
     }
     for length in [WINDOW - 1, WINDOW, WINDOW + 1, 2 * WINDOW] {
-        logs.push((format!("whole records of {length} bytes"), filler(length)));
+        logs.push((format!("whole records of {length} bytes"), filled(length)));
     }
     logs
 }
