@@ -4,121 +4,37 @@
     python3 tests/program_test.py target/bin/emc2305_replay
 
 The logs are those of host/expected/src/program.rs. Also tried: input that comes in pieces, a log that is still being
-written, input that cannot be read, and output that nobody takes.
+written, input that cannot be read, output that nobody takes, a file as argument, and other arguments.
 """
 import contextlib
-import itertools
 import os
-import pty
+import pathlib
 import select
 import subprocess
 import sys
 import tempfile
 import time
-import tty
 
 import host
+import programs
+from programs import TIMEOUT, WINDOW, counts, fail, first_difference, finished, stands, terminal
 
-WINDOW = 65536  # the program's buffer
-TIMEOUT = 60  # seconds, after which the program counts as hanging
 LINE_TIMEOUT = 10  # seconds, after which a line that is due counts as missing
 GLANCE = 0.05  # seconds, in which a line that is not due would show; one that comes later is found with the next line
+LONGEST_NAME = 4095  # bytes of a file's name
 # names of logs
 EXAMPLE = "document 01's example"
 SHORT = "a byte at a time"
 STOPPED = "a byte at a time, with a stop"
-counts = {"logs": 0, "bytes": 0, "others": 0}
-
-
-# ---- running and comparing ----
-
-def fail(name, text):
-    sys.exit(f"program_test: {name}: {text}")
-
-
-def shortened(text, most=160):
-    return text if len(text) <= most else f"{text[:most // 2]}..{text[-most // 2:]} ({len(text)} characters)"
-
-
-def first_difference(expected, actual):
-    """The first line in which two outputs differ, of both."""
-    lines, others = expected.splitlines(keepends=True), actual.splitlines(keepends=True)
-    at = next((k for k, pair in enumerate(zip(lines, others)) if pair[0] != pair[1]), min(len(lines), len(others)))
-    ours, theirs = (repr(side[at].decode("latin-1")) if at < len(side) else "nothing" for side in (lines, others))
-    return f"line {at + 1}: expected {shortened(ours)}, got {shortened(theirs)}"
-
-
-def compare(name, log, expected, actual):
-    if actual != expected:
-        fail(name, f"log {shortened(log.hex()) or 'empty'}, {first_difference(expected, actual)}")
-    counts["logs"] += 1
-    counts["bytes"] += len(expected)
-
-
-def finished(name, process):
-    """Waits for a program that has all its input. A timeout, too, names the case."""
-    try:
-        return process.wait(TIMEOUT)
-    except subprocess.TimeoutExpired:
-        process.kill()
-        process.wait()
-        fail(name, "the program does not end")
-
-
-def output_of(program, name, stdin):
-    """What the program writes on standard output and standard error with an open file as its input."""
-    with tempfile.TemporaryFile() as output, tempfile.TemporaryFile() as errors:
-        finished(name, subprocess.Popen(program, stdin=stdin, stdout=output, stderr=errors))
-        output.seek(0)
-        errors.seek(0)
-        return output.read(), errors.read()
-
-
-def list_log(program, name, log, listing):
-    """One log, in a file: a read gives as many bytes as it asks for."""
-    with tempfile.TemporaryFile() as file:
-        file.write(log)
-        file.seek(0)
-        output, _ = output_of(program, name, file)
-    compare(name, log, listing, output)
-
-
-# ---- input in pieces ----
-
-# the sizes of a log's pieces, again and again, and the seconds between two, by the log's name
-PIECES = {
-    "a byte at a time": ([1], 0.001),
-    "a byte at a time, with a stop": ([1], 0.001),
-    "a byte at a time, cut": ([1], 0.001),
-    "odd pieces": ([1, 4999, 37, 3, 1021, 7], 0),
-    "large pieces": ([WINDOW - 1, 1, WINDOW + 1, 2, 3 * WINDOW], 0),
-    "a piece that ends inside a record": ([WINDOW - 10, 5, 1], 0.001),
-}
-
-
-def dribbled(program, name, log, listing):
-    """The log through a pipe, in pieces."""
-    sizes, pause = PIECES[name]
-    with tempfile.TemporaryFile() as output:
-        process = subprocess.Popen(program, stdin=subprocess.PIPE, stdout=output, bufsize=0)
-        with contextlib.suppress(BrokenPipeError), process.stdin as pipe:
-            place = 0
-            for size in itertools.cycle(sizes):
-                place += pipe.write(log[place:place + size])
-                if place == len(log):
-                    break
-                time.sleep(pause)
-        finished(name, process)
-        output.seek(0)
-        compare(name, log, listing, output.read())
+LONG = "a long log"
 
 
 # ---- a log that is still being written ----
 
 @contextlib.contextmanager
-def at_work(program, stdin):
+def at_work(command, stdin):
     """The program, to be given input and asked for lines in turn. It is ended where a check fails."""
-    with subprocess.Popen(program, stdin=stdin, stdout=subprocess.PIPE, stderr=subprocess.PIPE, bufsize=0) as process:
+    with subprocess.Popen(command, stdin=stdin, stdout=subprocess.PIPE, stderr=subprocess.PIPE, bufsize=0) as process:
         try:
             yield process
         finally:
@@ -166,10 +82,10 @@ def give(name, process, record, at):
         process.stdin.write(record[at:])
 
 
-def as_it_comes(program, name, log, listing, turn):
+def as_it_comes(command, name, log, listing, turn):
     """Each record is written only when the line before it has come; every other one in two parts."""
     records, last = due(log, listing)
-    with at_work(program, subprocess.PIPE) as process:
+    with at_work(command, subprocess.PIPE) as process:
         for number, (record, lines) in enumerate(records):
             at = 1 + number % (len(record) - 1) if number % 2 == turn else 0
             give(f"{name}, record {number}", process, record, at)
@@ -182,24 +98,13 @@ def as_it_comes(program, name, log, listing, turn):
     counts["others"] += 1
 
 
-def logs_as_they_come(program, logs):
+def logs_as_they_come(command, logs):
     """One ends with its input, one stops before. A record comes whole in one of them, and in two parts in the other."""
-    as_it_comes(program, "a log as it comes", *logs[SHORT], 0)
-    as_it_comes(program, "a log as it comes, with a stop", *logs[STOPPED], 1)
+    as_it_comes(command, "a log as it comes", *logs[SHORT], 0)
+    as_it_comes(command, "a log as it comes, with a stop", *logs[STOPPED], 1)
 
 
-# ---- input that cannot be read, output that nobody takes ----
-
-# Linux tells of the error only when all that was written has been read, however late that is. What is written before the
-# program reads has to be shorter than 4,096 bytes, which a terminal holds: more could wait for ever.
-@contextlib.contextmanager
-def terminal():
-    """Two ends: the near one gives what was written to the far one and then, once that is closed, an error."""
-    near, far = pty.openpty()
-    with open(near, "rb", buffering=0) as near, open(far, "wb", buffering=0) as far:
-        tty.setraw(far)
-        yield near, far
-
+# ---- input that cannot be read ----
 
 def whole_records(listing):
     """The lines of a log without the last one, and without that of a record in which the log ends."""
@@ -208,38 +113,10 @@ def whole_records(listing):
     return b"".join(lines[:-2] if cut else lines[:-1])
 
 
-def stands(name, lines, output, errors):
-    """The lines of the whole records before the error, no last line, and a message."""
-    if output != lines:
-        fail(name, first_difference(lines, output))
-    if not errors:
-        fail(name, "no message on standard error")
-    counts["others"] += 1
-
-
-def unreadable(program, name, stdin, lines=b""):
-    """Input in which all that comes before the error is there when the program begins to read."""
-    stands(name, lines, *output_of(program, name, stdin))
-
-
-def unreadable_at_once(program):
-    folder = os.open("/", os.O_RDONLY)
-    unreadable(program, "a folder as input", folder)
-    os.close(folder)
-    unreadable(["sh", "-c", 'exec "$0" <&-', program], "closed input", None)
-
-
-def unreadable_behind(program, log, listing):
-    with terminal() as (near, far):
-        far.write(log)
-        far.close()
-        unreadable(program, f"a read error at place {len(log)}", near, whole_records(listing))
-
-
-def unreadable_later(program, first, its_listing, log, listing):
+def unreadable_later(command, first, its_listing, log, listing):
     """The rest of the log is written when the program has listed what came first."""
     name, early = "a read error behind two reads", whole_records(its_listing)
-    with terminal() as (near, far), at_work(program, near) as process:
+    with terminal() as (near, far), at_work(command, near) as process:
         far.write(first)
         expect(name, process, early)
         far.write(log[len(first):])
@@ -248,37 +125,73 @@ def unreadable_later(program, first, its_listing, log, listing):
     stands(name, whole_records(listing), early + output, errors)
 
 
-def unreadable_inputs(program, logs):
+def unreadable_inputs(command, logs):
     """Errors at the first read, and behind every part of a log; the two of the last case end inside a record."""
-    unreadable_at_once(program)
+    programs.unreadable_at_once(command)
     parts = [logs[f"short, cut at {length}"] for length in range(len(logs[SHORT][0]) + 1)]
     for log, listing in parts:
-        unreadable_behind(program, log, listing)
-    unreadable_later(program, *parts[len(parts) // 2], *parts[-2])
+        programs.unreadable_behind(command, log, whole_records(listing))
+    unreadable_later(command, *parts[len(parts) // 2], *parts[-2])
 
 
-def untaken(program, name, file, signals):
-    """The reader takes one line and goes. The write after it gives a signal, or an error where that is ignored."""
-    file.seek(0)
-    process = subprocess.Popen(program, stdin=file, stdout=subprocess.PIPE, stderr=subprocess.DEVNULL,
-                               restore_signals=signals)
-    first = process.stdout.readline()
-    process.stdout.close()
-    finished(name, process)
-    if first != b"0 0\n":
-        fail(name, f"{first!r} as the first line")
-    counts["others"] += 1
+# ---- a file as argument ----
+
+def title(word):
+    return f"the file {programs.shortened(repr(word))}"
 
 
-def untaken_outputs(program, logs):
-    """The long log, behind a record that is taken."""
-    with tempfile.TemporaryFile() as file, open("/dev/full", "wb") as full:
-        file.write(logs[EXAMPLE][0] + logs["a long log"][0])
-        untaken(program, "closed output", file, True)
-        untaken(program, "closed output, the signal ignored", file, False)
-        file.seek(0)
-        finished("full output", subprocess.Popen(program, stdin=file, stdout=full, stderr=subprocess.DEVNULL))
-        counts["others"] += 1
+def listed(program, folder, word, log, listing):
+    """The file of this name, in this folder, is listed."""
+    name = title(word)
+    output, _ = programs.input_left([program, word], name, cwd=folder)
+    programs.compare(name, log, listing, output)
+
+
+def named_files(program, folder, logs):
+    """Logs of every size by their names, and one by names that look like something else or are as long as may be."""
+    for name in (EXAMPLE, "no bytes", SHORT, STOPPED, LONG):
+        log, listing = logs[name]
+        (folder / "a.log").write_bytes(log)
+        listed(program, folder, "a.log", log, listing)
+    log, listing = logs[SHORT]
+    path = os.fsencode(folder / "a.log")
+    (folder / "a.log").write_bytes(log)
+    for word in (path, path.rjust(LONGEST_NAME, b"/"), path.rjust(1000, b"/")):
+        listed(program, folder, word, log, listing)
+    for word in (b"-", b"-h", b"--", b"--help ", b"--helps", b"help", b"two words", b"\xff\xfe"):
+        (folder / os.fsdecode(word)).write_bytes(log)
+        listed(program, folder, word, log, listing)
+
+
+def unopened_files(program, folder):
+    """No listing, and a message: what is not there, is a folder or has too long a name, of which a part may be there."""
+    path = os.fsencode(folder / "a.log")
+    words = [b"", b" ", b"none", b"a.log/", b"a.log/a.log", b"a.log ", b".", b"/", os.fsencode(folder), b"x" * 256]
+    words += [path.rjust(LONGEST_NAME + more, b"/") for more in (1, 2, LONGEST_NAME, 90_000)]
+    words += [path.rjust(LONGEST_NAME, b"/") + b"x" * more for more in (1, 2, 4096)]
+    for word in words:
+        name = title(word)
+        stands(name, b"", *programs.input_left([program, word], name, cwd=folder))
+
+
+def too_many(program, folder):
+    """No listing, and a usage on standard error; the files would be there."""
+    for words in (["a.log", "a.log"], ["a.log", ""], ["", ""], ["--help", "--help"], ["--help", "a.log"],
+                  ["a.log", "--help"], ["a.log"] * 3, ["a.log"] * 300):
+        name = f"{len(words)} arguments, {words[:3]}"
+        output, errors = programs.input_left([program, *words], name, cwd=folder)
+        stands(name, b"", output, errors)
+        programs.has_usage(program, name, errors)
+
+
+def arguments(program, logs):
+    with tempfile.TemporaryDirectory() as path:
+        folder = pathlib.Path(path)
+        (folder / "--help").write_bytes(logs[SHORT][0])
+        programs.helps(program, cwd=folder)
+        named_files(program, folder, logs)
+        unopened_files(program, folder)
+        too_many(program, folder)
 
 
 def expected_listings():
@@ -294,16 +207,16 @@ def main():
     program = os.path.abspath(sys.argv[1])
     logs = {}
     for name, log, listing in expected_listings():
-        hand_over = dribbled if name in PIECES else list_log
-        hand_over(program, name, log, listing)
+        programs.hand_over([program], name, log, listing)
         logs[name] = log, listing
-    if not PIECES.keys() <= logs.keys():
-        fail("host/expected", f"no log for {PIECES.keys() - logs.keys()}")
-    logs_as_they_come(program, logs)
-    unreadable_inputs(program, logs)
-    untaken_outputs(program, logs)
-    print(f"program_test: {counts['logs']} logs, {counts['bytes']} bytes as expected; "
-          f"{counts['others']} cases of logs as they come, unreadable input and untaken output")
+    programs.none_missing(logs.keys())
+    logs_as_they_come([program], logs)
+    unreadable_inputs([program], logs)
+    # the long log, behind a record that is taken
+    programs.untaken_outputs([program], logs[EXAMPLE][0] + logs[LONG][0], b"0 0\n")
+    arguments(program, logs)
+    print(f"program_test: {counts['logs']} logs, {counts['bytes']} bytes as expected; {counts['others']} cases of logs "
+          f"as they come, unreadable input, untaken output and arguments")
 
 
 if __name__ == "__main__":
