@@ -2,9 +2,9 @@
 use crate::chance::Chance;
 use crate::subject::{Independent, Subject};
 use cobblehard::{Event, LONGEST_RECORD};
-use std::fmt::Debug;
+use std::fmt::{Arguments, Debug};
 
-/// Bytes around every lent buffer, which nobody may touch.
+/// Entries around every lent buffer, which nobody may touch.
 const MARGIN: usize = 8;
 
 /// What differs, in words; none where nothing does.
@@ -12,23 +12,35 @@ pub fn difference(subject: &dyn Subject, log: &[u8]) -> Option<String> {
     runs(subject, log)
         .or_else(|| readings(subject, log))
         .or_else(|| writings(subject, log))
+        .or_else(|| reports(subject, log))
         .or_else(|| lists(subject, log))
+        .or_else(|| report_lines(subject, log))
 }
 
-/// A buffer of a length, within margins, each byte of which tells its place.
-fn buffer(length: usize) -> Vec<u8> {
-    (0..length + 2 * MARGIN).map(|i| (i * 7 + 3) as u8).collect()
+/// A buffer of a length, within margins, each entry of which tells its place.
+fn buffer<N: From<u8>>(length: usize) -> Vec<N> {
+    (0..length + 2 * MARGIN).map(|i| N::from((i * 7 + 3) as u8)).collect()
 }
 
 /// Lends the middle of such a buffer; gives what was answered, and the buffer with its margins.
-fn lent<T>(length: usize, call: impl FnOnce(&mut [u8]) -> T) -> (T, Vec<u8>) {
+fn lent<N: From<u8>, T>(length: usize, call: impl FnOnce(&mut [N]) -> T) -> (T, Vec<N>) {
     let mut whole = buffer(length);
     let answer = call(&mut whole[MARGIN..MARGIN + length]);
     (answer, whole)
 }
 
-fn unequal<T: PartialEq + Debug>(what: String, expected: T, got: T) -> Option<String> {
-    (expected != got).then(|| format!("{what}\n  independent model: {expected:X?}\n  compared:          {got:X?}"))
+fn differs(what: Arguments, [expected, got]: [String; 2]) -> String {
+    format!("{what}\n  independent model: {expected}\n  compared:          {got}")
+}
+
+/// Bytes are shown in hex.
+fn unequal<T: PartialEq + Debug>(what: Arguments, expected: T, got: T) -> Option<String> {
+    (expected != got).then(|| differs(what, [expected, got].map(|side| format!("{side:X?}"))))
+}
+
+/// Numbers are shown in decimal.
+fn unequal_numbers<T: PartialEq + Debug>(what: Arguments, expected: T, got: T) -> Option<String> {
+    (expected != got).then(|| differs(what, [expected, got].map(|side| format!("{side:?}"))))
 }
 
 /// The four numbers, the place of the fault and the whole buffer, with room for all replies and more, just enough, too
@@ -45,9 +57,9 @@ fn runs(subject: &dyn Subject, log: &[u8]) -> Option<String> {
 fn run_in(subject: &dyn Subject, log: &[u8], room: usize) -> Option<String> {
     let (expected, whole_expected) = lent(room, |replies| Independent.run(log, replies));
     let (got, whole_got) = lent(room, |replies| subject.run(log, replies));
-    unequal(format!("a run with room for {room} bytes"), expected, got).or_else(|| {
+    unequal(format_args!("a run with room for {room} bytes"), expected, got).or_else(|| {
         unequal(
-            format!("the replies in a buffer of {room} bytes"),
+            format_args!("the replies in a buffer of {room} bytes"),
             whole_expected,
             whole_got,
         )
@@ -83,7 +95,7 @@ pub fn record_places(log: &[u8]) -> Vec<usize> {
 fn readings(subject: &dyn Subject, log: &[u8]) -> Option<String> {
     places(log).into_iter().find_map(|place| {
         unequal(
-            format!("reading at {place}"),
+            format_args!("reading at {place}"),
             Independent.read(log, place),
             subject.read(log, place),
         )
@@ -109,7 +121,11 @@ fn written(subject: &dyn Subject, event: &Event, other_room: usize) -> Option<St
         .find_map(|room| {
             let expected = lent(room, |out| Independent.write(event, out));
             let got = lent(room, |out| subject.write(event, out));
-            unequal(format!("writing {event:X?} with room for {room} bytes"), expected, got)
+            unequal(
+                format_args!("writing {event:X?} with room for {room} bytes"),
+                expected,
+                got,
+            )
         })
 }
 
@@ -142,15 +158,65 @@ fn any_event<'a>(chance: &mut Chance, bytes: &'a [u8]) -> Event<'a> {
     }
 }
 
+/// How many entries the lent slices of figures have, most often as many as there are figures.
+const ENTRIES: [usize; 12] = [25, 25, 25, 25, 25, 40, 26, 24, 20, 7, 1, 0];
+/// Poles of no fan, some of which end like others.
+const WRONG_POLES: [u64; 6] = [0, 5, 6, 1 << 32 | 2, 1 << 63 | 1, u64::MAX];
+/// What is no argument of the program; more are tried by tests/speeds_test.py.
+const WRONG_ARGUMENTS: [&str; 6] = ["0", "5", "01", " 1", "", "12"];
+
+/// The report for every number of poles and at times a wrong one, in slices of different lengths.
+fn reports(subject: &dyn Subject, log: &[u8]) -> Option<String> {
+    let mut chance = Chance::new(log.len() as u64 + 2);
+    let wrong = chance.one_in(8).then(|| chance.pick(&WRONG_POLES));
+    (1..=4)
+        .chain(wrong)
+        .find_map(|poles| reported(subject, log, poles, chance.pick(&ENTRIES)))
+}
+
+fn reported(subject: &dyn Subject, log: &[u8], poles: u64, entries: usize) -> Option<String> {
+    let (expected, whole_expected) = lent(entries, |figures| Independent.speeds(log, poles, figures));
+    let (got, whole_got) = lent(entries, |figures| subject.speeds(log, poles, figures));
+    unequal_numbers(
+        format_args!("the report for {poles} poles, number, place and records"),
+        expected,
+        got,
+    )
+    .or_else(|| {
+        unequal_numbers(
+            format_args!("the report for {poles} poles, figures in a slice of {entries}"),
+            whole_expected,
+            whole_got,
+        )
+    })
+}
+
 fn lists(subject: &dyn Subject, log: &[u8]) -> Option<String> {
-    let expected = Independent.list(log).expect("the model lists every log");
-    let got = match subject.list(log) {
+    lines("the listing", Independent.list(log), subject.list(log))
+}
+
+/// For one number of poles, or now and then what is none.
+fn report_lines(subject: &dyn Subject, log: &[u8]) -> Option<String> {
+    let mut chance = Chance::new(log.len() as u64 + 3);
+    let poles = if chance.one_in(16) {
+        chance.pick(&WRONG_ARGUMENTS)
+    } else {
+        chance.pick(&["1", "2", "3", "4"])
+    };
+    let what = format!("the lines of the report for {poles:?}");
+    lines(&what, Independent.report(log, poles), subject.report(log, poles))
+}
+
+/// The first line that differs.
+fn lines(what: &str, expected: Result<Vec<u8>, String>, got: Result<Vec<u8>, String>) -> Option<String> {
+    let expected = expected.expect("the model lists every log");
+    let got = match got {
         Ok(got) if got == expected => return None,
         Ok(got) => got,
-        Err(error) => return Some(format!("no listing: {error}")),
+        Err(error) => return Some(format!("not {what}: {error}")),
     };
     let (expected, got) = (String::from_utf8_lossy(&expected), String::from_utf8_lossy(&got));
     let line = expected.lines().zip(got.lines()).take_while(|(a, b)| a == b).count();
     let [expected, got] = [expected, got].map(|lines| lines.lines().nth(line).unwrap_or("(no line)").to_owned());
-    unequal(format!("line {} of the listing", line + 1), expected, got).or(Some("the listing's last line end".into()))
+    unequal(format_args!("line {} of {what}", line + 1), expected, got).or(Some(format!("{what}, its last line end")))
 }

@@ -1,7 +1,8 @@
-//! What is compared with the independent model: anything that runs, reads, writes and lists.
+//! What is compared with the independent model: anything that runs, reads, writes, lists and reports speeds.
 use cobblehard::{Event, Refusal};
 use model::log::Fault;
 use model::replay::Run;
+use model::speeds::{self, Speeds};
 use std::fmt;
 use std::io::{self, Read, Write};
 use std::path::{Path, PathBuf};
@@ -50,6 +51,10 @@ pub trait Subject {
     fn write(&self, event: &Event, out: &mut [u8]) -> Result<usize, Refused>;
     /// The lines, or in words what kept them from being listed.
     fn list(&self, log: &[u8]) -> Result<Vec<u8>, String>;
+    /// The report's number, place and records; it lays as many of the 25 figures as there is room for.
+    fn speeds(&self, log: &[u8], poles: u64, figures: &mut [u64]) -> (u8, usize, usize);
+    /// The report's lines for a program's argument, or in words what kept them from being written.
+    fn report(&self, log: &[u8], poles: &str) -> Result<Vec<u8>, String>;
 }
 
 /// The independent model.
@@ -83,6 +88,24 @@ impl Subject for Independent {
         model::listing::list(log, &mut lines);
         Ok(lines)
     }
+
+    fn speeds(&self, log: &[u8], poles: u64, figures: &mut [u64]) -> (u8, usize, usize) {
+        let report = speeds::speeds(log, poles);
+        lay(&report, figures);
+        (report.number, report.place, report.records)
+    }
+
+    fn report(&self, log: &[u8], poles: &str) -> Result<Vec<u8>, String> {
+        Ok(speeds::list(log, speeds::poles(poles.as_bytes())).into_bytes())
+    }
+}
+
+/// CR 2, as read: "It lays as many of the 25 as the slice has room for".
+pub fn lay(report: &Speeds, figures: &mut [u64]) {
+    figures
+        .iter_mut()
+        .zip(report.figures)
+        .for_each(|(entry, figure)| *entry = figure);
 }
 
 /// The model's event, which says where its bytes lie, as the wrapper has it.
@@ -134,24 +157,38 @@ fn event_to(event: &Event) -> (model::log::Event, Vec<u8>) {
     }
 }
 
-/// The proved model, as a user has it: the library and the program.
+/// The proved model, as a user has it: the library and the programs.
 pub struct Proved {
     pub program: PathBuf,
+    pub speeds: PathBuf,
 }
 
 impl Proved {
-    /// With the program where `rt check emc2305_replay` lays it, or at COBBLEHARD_PROGRAM; in words, where it is not there.
+    /// With the programs where `rt check` lays them, or at COBBLEHARD_PROGRAM and COBBLEHARD_SPEEDS; in words, where one is
+    /// not there.
     pub fn built() -> Result<Proved, String> {
-        let built = || Path::new(env!("CARGO_MANIFEST_DIR")).join("../../target/bin/emc2305_replay");
-        let program = std::env::var_os("COBBLEHARD_PROGRAM").map_or_else(built, PathBuf::from);
-        if program.is_file() {
-            Ok(Proved { program })
-        } else {
-            Err(format!(
-                "{} is not there: `rt check emc2305_replay` makes it",
-                program.display()
-            ))
-        }
+        Ok(Proved {
+            program: built("emc2305_replay", "COBBLEHARD_PROGRAM")?,
+            speeds: built("emc2305_speeds", "COBBLEHARD_SPEEDS")?,
+        })
+    }
+}
+
+/// The program of this name, or the one that this variable has.
+fn built(name: &str, variable: &str) -> Result<PathBuf, String> {
+    let laid = || {
+        Path::new(env!("CARGO_MANIFEST_DIR"))
+            .join("../../target/bin")
+            .join(name)
+    };
+    let program = std::env::var_os(variable).map_or_else(laid, PathBuf::from);
+    if program.is_file() {
+        Ok(program)
+    } else {
+        Err(format!(
+            "{} is not there: `rt check {name}` makes it",
+            program.display()
+        ))
     }
 }
 
@@ -178,7 +215,16 @@ impl Subject for Proved {
     }
 
     fn list(&self, log: &[u8]) -> Result<Vec<u8>, String> {
-        listed_by(&self.program, log).map_err(|error| format!("{}: {error}", self.program.display()))
+        written_by(&mut Command::new(&self.program), log)
+    }
+
+    fn speeds(&self, log: &[u8], poles: u64, figures: &mut [u64]) -> (u8, usize, usize) {
+        cobblehard::speeds_into(log, poles, figures)
+    }
+
+    /// What it says of a wrong argument on standard error is for people.
+    fn report(&self, log: &[u8], poles: &str) -> Result<Vec<u8>, String> {
+        written_by(Command::new(&self.speeds).arg(poles).stderr(Stdio::null()), log)
     }
 }
 
@@ -189,12 +235,15 @@ fn refused(refusal: Refusal) -> Refused {
     }
 }
 
-/// What a program writes with a log on its standard input. It fails where it ends otherwise than well, or not at all.
-fn listed_by(program: &Path, log: &[u8]) -> io::Result<Vec<u8>> {
-    let mut child = Command::new(program)
-        .stdin(Stdio::piped())
-        .stdout(Stdio::piped())
-        .spawn()?;
+/// What a program writes with a log on its standard input, or in words why not.
+fn written_by(command: &mut Command, log: &[u8]) -> Result<Vec<u8>, String> {
+    let written = output_of(command, log);
+    written.map_err(|error| format!("{}: {error}", Path::new(command.get_program()).display()))
+}
+
+/// It fails where the program ends otherwise than well, or not at all.
+fn output_of(command: &mut Command, log: &[u8]) -> io::Result<Vec<u8>> {
+    let mut child = command.stdin(Stdio::piped()).stdout(Stdio::piped()).spawn()?;
     let (mut stdin, mut stdout) = (child.stdin.take().expect("piped"), child.stdout.take().expect("piped"));
     let (sender, receiver) = mpsc::channel();
     thread::scope(|scope| {

@@ -106,6 +106,14 @@ impl Subject for Counting {
     fn list(&self, log: &[u8]) -> Result<Vec<u8>, String> {
         Independent.list(log)
     }
+
+    fn speeds(&self, log: &[u8], poles: u64, figures: &mut [u64]) -> (u8, usize, usize) {
+        Independent.speeds(log, poles, figures)
+    }
+
+    fn report(&self, log: &[u8], poles: &str) -> Result<Vec<u8>, String> {
+        Independent.report(log, poles)
+    }
 }
 
 #[test]
@@ -270,6 +278,14 @@ impl Subject for Wrong {
         };
         Ok(lied.into_bytes())
     }
+
+    fn speeds(&self, log: &[u8], poles: u64, figures: &mut [u64]) -> (u8, usize, usize) {
+        Independent.speeds(log, poles, figures)
+    }
+
+    fn report(&self, log: &[u8], poles: &str) -> Result<Vec<u8>, String> {
+        Independent.report(log, poles)
+    }
 }
 
 /// Numbers of a run that are otherwise.
@@ -420,8 +436,8 @@ const LIES: [(Lie, &str); 39] = [
     (Lie::WrittenFault, "writing"),
     (Lie::ListedNumber, "line"),
     (Lie::ListedFault, "line"),
-    (Lie::Ends, "no listing"),
-    (Lie::LastLineEnd, "the listing's last line end"),
+    (Lie::Ends, "not the listing"),
+    (Lie::LastLineEnd, "the listing, its last line end"),
     (Lie::SmallDigits, "line"),
     (Lie::StopLine, "line"),
     (Lie::StoppingRecord, "line"),
