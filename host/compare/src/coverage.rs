@@ -6,6 +6,8 @@ use model::chip::{
 use model::log::{read, Event, Fault};
 use std::collections::BTreeMap;
 
+mod speeds;
+
 /// A reply has at most so many bytes.
 const ROOM: usize = 32;
 /// Of one event so many ticks are looked at one by one.
@@ -25,7 +27,7 @@ pub struct Coverage {
     by_stall: [u64; 64],
 }
 
-/// What is counted by name. Numbers, registers, periods and Spin Up settings have names of their own.
+/// What is counted by name, but for speeds. Numbers, registers, periods and Spin Up settings have names of their own.
 const NAMES: [&str; 101] = [
     // The log
     "sample of fan 0",
@@ -140,9 +142,10 @@ impl Coverage {
     pub fn none() -> Coverage {
         let numbers = (0..=11).map(|number| format!("number {number}"));
         let periods = PERIODS.iter().map(|ticks| format!("update after {ticks} ticks"));
-        let names = NAMES.iter().map(|name| name.to_string());
+        let names = NAMES.iter().chain(&speeds::NAMES).map(|name| name.to_string());
+        let others = numbers.chain(periods).chain(speeds::setting_names());
         Coverage {
-            happened: names.chain(numbers).chain(periods).map(|name| (name, 0)).collect(),
+            happened: names.chain(others).map(|name| (name, 0)).collect(),
             read: [0; 256],
             written: [0; 256],
             changed: [0; 256],
@@ -178,8 +181,9 @@ impl Coverage {
         self.count(&format!("number {number}"), true);
     }
 
-    /// Walks a log as a run does and counts what happens.
+    /// Walks a log as a run does and counts what happens, and again as a report does.
     pub fn add(&mut self, log: &[u8]) {
+        self.speeds(log);
         let (mut chip, mut place) = (Chip::unpowered(), 0);
         loop {
             match read(log, place) {

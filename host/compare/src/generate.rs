@@ -1,9 +1,10 @@
 //! Logs by their seeds: traffic, traffic with damage, traffic cut off, and bytes that are no log.
 use crate::chance::Chance;
-use crate::traffic::{traffic, Traffic, MARK};
+use crate::traffic::{crowd, traffic, Traffic, MARK};
 
-/// One log in so many is long: the program reads a log through a buffer of 65,536 bytes.
-const LONG_ONE_IN: usize = 1_000;
+/// One log in so many is long: the programs read a log through a buffer of 65,536 bytes, and a report takes 65,535 samples
+/// a fan.
+const LONG_ONE_IN: usize = 350;
 const LONG: usize = 150_000;
 const BUFFER: usize = 65_536;
 
@@ -11,10 +12,10 @@ const BUFFER: usize = 65_536;
 pub fn log(seed: u64) -> Vec<u8> {
     let chance = &mut Chance::new(seed);
     if chance.one_in(LONG_ONE_IN) {
-        return if chance.one_in(2) {
-            long(chance)
-        } else {
-            over_the_buffer(chance)
+        return match chance.below(6) {
+            0 => long(chance),
+            1 => over_the_buffer(chance),
+            _ => crowd(chance).log,
         };
     }
     match chance.below(20) {

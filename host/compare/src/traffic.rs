@@ -11,6 +11,8 @@ const PERIODS: [usize; 8] = [8, 16, 24, 32, 40, 64, 96, 128];
 const SPIN_UP_LENGTHS: [usize; 4] = [20, 40, 80, 160];
 const WATCH_TICKS: usize = 320;
 const LARGEST_SAMPLE: usize = 8191;
+/// As many samples a fan as a report takes.
+pub const MOST_SAMPLES: usize = 65_535;
 
 /// Steps that the rules or their slips turn on; the two high bits of Max Step do not count.
 const STEPS: [u8; 9] = [0, 1, 16, 63, 0x40, 0x41, 0x50, 0x7F, 0xFF];
@@ -49,13 +51,7 @@ struct FanAt {
 
 /// A log of so many scenes.
 pub fn traffic(chance: &mut Chance, scenes: usize) -> Traffic<'_> {
-    let address = chance.pick(&[0x2C, 0x2D, 0x00, 0x7F]);
-    let mut traffic = Traffic {
-        log: Vec::new(),
-        starts: Vec::new(),
-        address,
-        chance,
-    };
+    let mut traffic = Traffic::none(chance);
     traffic.before_power();
     for _ in 0..scenes {
         traffic.scene();
@@ -63,7 +59,29 @@ pub fn traffic(chance: &mut Chance, scenes: usize) -> Traffic<'_> {
     traffic
 }
 
+/// A log in which one fan has about as many samples as a report takes; whatever comes behind them.
+pub fn crowd(chance: &mut Chance) -> Traffic<'_> {
+    let mut traffic = Traffic::none(chance);
+    traffic.before_power();
+    traffic.power_on();
+    let at = traffic.any_fan();
+    traffic.crowding(at);
+    traffic.behind_the_crowd(at);
+    traffic
+}
+
 // ---- records ----
+
+impl<'a> Traffic<'a> {
+    fn none(chance: &'a mut Chance) -> Traffic<'a> {
+        Traffic {
+            log: Vec::new(),
+            starts: Vec::new(),
+            address: chance.pick(&[0x2C, 0x2D, 0x00, 0x7F]),
+            chance,
+        }
+    }
+}
 
 impl Traffic<'_> {
     pub fn record(&mut self, kind: u8, payload: &[u8]) {
@@ -125,6 +143,10 @@ impl Traffic<'_> {
                 self.small_event();
             }
         }
+        if self.chance.one_in(8) {
+            let (fan, count) = (self.chance.below(FANS), self.any_count());
+            self.sample(fan, count);
+        }
         if !self.chance.one_in(16) {
             self.power_on();
         }
@@ -134,7 +156,7 @@ impl Traffic<'_> {
         if self.chance.one_in(2) {
             self.power_on();
         }
-        match self.chance.below(16) {
+        match self.chance.below(18) {
             0 => self.any_write(),
             1 => self.wrapping(),
             2 => self.locking(),
@@ -146,6 +168,7 @@ impl Traffic<'_> {
             12 => self.closed_loop(),
             13 => self.resting_loop(),
             14 => self.held_rotor(),
+            15 | 16 => self.speeding(),
             _ => (0..self.chance.between(1, 12)).for_each(|_| self.small_event()),
         }
         match self.chance.below(4) {
@@ -476,6 +499,82 @@ impl Traffic<'_> {
         }
         let wait = self.chance.pick(&[0, 0, 8, 20, 40]);
         self.ticks(wait);
+    }
+
+    /// Samples of one fan or two at any setting of Configuration 1, with what changes it between them and what does not.
+    fn speeding(&mut self) {
+        let fans = [self.any_fan(), self.any_fan()];
+        for _ in 0..self.chance.between(1, 12) {
+            let at = self.chance.pick(&fans);
+            self.change_configuration(at);
+            for _ in 0..self.chance.below(5) {
+                let count = self.any_count();
+                self.sample(at.fan, count);
+            }
+        }
+    }
+
+    /// Configuration 1 of a fan alone or in a block, or something else.
+    fn change_configuration(&mut self, at: FanAt) {
+        let (byte, own) = (self.chance.byte(), self.address);
+        match self.chance.below(10) {
+            0..=3 => self.set(at.base + CONFIGURATION_1, byte),
+            4 => {
+                let bytes = self.chance.bytes(24);
+                self.write(&[&[at.base - 8], &bytes[..]].concat());
+            }
+            5 => self.set(at.base + CONFIGURATION_2, byte),
+            6 => {
+                self.address ^= 1;
+                self.set(at.base + CONFIGURATION_1, byte);
+                self.address = own;
+            }
+            7 => self.power_on(),
+            8 => self.ticks(WATCH_TICKS),
+            _ => {}
+        }
+    }
+
+    /// None, few, many or any.
+    fn any_count(&mut self) -> usize {
+        let any = self.chance.below(LARGEST_SAMPLE + 1);
+        let few = self.chance.between(1, 20);
+        self.chance
+            .pick(&[0, 1, 2, 3, few, any, any, any, LARGEST_SAMPLE - 1, LARGEST_SAMPLE])
+    }
+
+    /// As many samples of a fan as a report takes, seldom one fewer: many in a row that are the same, and other records
+    /// between them.
+    fn crowding(&mut self, at: FanAt) {
+        let mut left = MOST_SAMPLES - usize::from(self.chance.one_in(8));
+        while left > 0 {
+            let (many, count) = (self.chance.between(1, left), self.any_count());
+            (0..many).for_each(|_| self.sample(at.fan, count));
+            left -= many;
+            self.change_configuration(at);
+            let (fan, count) = ((at.fan + self.chance.between(1, 4)) % FANS, self.any_count());
+            self.sample(fan, count);
+        }
+    }
+
+    /// One sample more of the fan, one that is damaged, other records, or a log that ends inside it.
+    fn behind_the_crowd(&mut self, at: FanAt) {
+        let any = self.any_count();
+        let count = self.chance.pick(&[0, any]);
+        match self.chance.below(8) {
+            0 => {}
+            1 => self.record(3, &[at.fan as u8 + 1, 0x00, 0x20]),
+            2 => self.record(3, &[at.fan as u8 + 1, 0x00]),
+            3 => {
+                self.sample(at.fan, count);
+                self.log.pop();
+            }
+            _ => {
+                self.small_event();
+                (0..2).for_each(|_| self.sample(at.fan, count));
+                self.small_event();
+            }
+        }
     }
 
     /// The largest sample that is no stall, the smallest that is one, or any.
