@@ -107,6 +107,37 @@ pub fn reads(transfers: usize) -> Measured {
     Measured::new("reads from any address", log)
 }
 
+fn sample(log: &mut Vec<u8>, fan: usize, count: usize) {
+    let [low, high] = (count as u16).to_le_bytes();
+    record(log, 3, &[fan as u8 + 1, low, high]);
+}
+
+/// Samples of the five fans in turn, so many of each, with any count.
+pub fn samples(each: usize) -> Measured {
+    let mut chance = Chance::new(19);
+    let mut log = powered();
+    for _ in 0..each {
+        (0..FANS).for_each(|fan| sample(&mut log, fan, chance.below(8_192)));
+    }
+    Measured::new("samples alone", log)
+}
+
+/// So many samples of each fan, and with each a look at its reading and a write to its Configuration 1.
+pub fn sampled_transfers(each: usize) -> Measured {
+    let mut chance = Chance::new(23);
+    let mut log = powered();
+    for _ in 0..each {
+        for fan in 0..FANS {
+            let base = 0x30 + 0x10 * fan as u8;
+            sample(&mut log, fan, chance.below(8_192));
+            write(&mut log, &[base + 0xE]);
+            record(&mut log, 5, &[ADDRESS * 2 + 1, 2]);
+            write(&mut log, &[base + 2, chance.byte() & 0x7F]);
+        }
+    }
+    Measured::new("samples among transfers", log)
+}
+
 /// Traffic of every kind, of about so many bytes.
 pub fn mixed(bytes: usize) -> Measured {
     let mut chance = Chance::new(11);

@@ -1,4 +1,5 @@
-//! Measures the proved model beside the independent one, in one process over the same logs, and both listing programs.
+//! Measures the proved model beside the independent one, in one process over the same logs, reports beside runs, and both
+//! listing programs.
 //! Prints tables as docs/PERFORMANCE.md has them.
 use compare::logs::{self, Measured};
 use compare::subject::{Independent, Proved, Subject};
@@ -8,13 +9,15 @@ use std::path::{Path, PathBuf};
 use std::process::{Command, ExitCode, Stdio};
 use std::time::Instant;
 
-/// How often each thing is measured, the two models in turn; the median counts.
+/// How often each thing is measured, those that are compared in turn; the median counts.
 const REPEATS: usize = 11;
+const POLES: u64 = 2;
 
 fn main() -> ExitCode {
     match Proved::built().and_then(|proved| Ok((proved, independent_program()?))) {
         Ok((proved, other)) => {
             runs(&proved);
+            reports(&proved);
             growth(&proved);
             listings(&proved, &other);
             ExitCode::SUCCESS
@@ -47,30 +50,30 @@ fn median(mut seconds: Vec<f64>) -> f64 {
     seconds[seconds.len() / 2]
 }
 
-/// The median times of two things, measured in turn.
-fn both(mut first: impl FnMut(), mut second: impl FnMut()) -> (f64, f64) {
-    let timed = |what: &mut dyn FnMut()| {
-        let start = Instant::now();
-        what();
-        start.elapsed().as_secs_f64()
-    };
-    let times = (0..REPEATS).map(|_| (timed(&mut first), timed(&mut second)));
-    let (first_times, second_times) = times.unzip();
-    (median(first_times), median(second_times))
+/// The median times of several things, measured in turn.
+fn in_turn<const N: usize>(mut things: [&mut dyn FnMut(); N]) -> [f64; N] {
+    let mut times = [const { Vec::new() }; N];
+    for _ in 0..REPEATS {
+        for (thing, times) in things.iter_mut().zip(&mut times) {
+            let start = Instant::now();
+            thing();
+            times.push(start.elapsed().as_secs_f64());
+        }
+    }
+    times.map(median)
+}
+
+fn run(subject: &dyn Subject, log: &[u8], replies: &mut [u8]) {
+    black_box(subject.run(log, replies));
 }
 
 /// The median times of a run over the log, by the proved model and by the independent one.
-fn run_times(proved: &Proved, log: &[u8]) -> (f64, f64) {
+fn run_times(proved: &Proved, log: &[u8]) -> [f64; 2] {
     let room = cobblehard::replies_room(log.len());
     let (mut replies, mut others) = (vec![0; room], vec![0; room]);
-    let times = both(
-        || {
-            black_box(proved.run(log, &mut replies));
-        },
-        || {
-            black_box(Independent.run(log, &mut others));
-        },
-    );
+    let times = in_turn([&mut || run(proved, log, &mut replies), &mut || {
+        run(&Independent, log, &mut others)
+    }]);
     assert!(replies == others, "the models answered otherwise");
     times
 }
@@ -90,7 +93,7 @@ fn runs(proved: &Proved) {
         logs::reads(200_000),
         logs::mixed(2_000_000),
     ] {
-        let (ours, theirs) = run_times(proved, &log);
+        let [ours, theirs] = run_times(proved, &log);
         let row = |what: &str, count: u64| {
             let millions = |seconds: f64| count as f64 / seconds / 1e6;
             println!(
@@ -108,13 +111,55 @@ fn runs(proved: &Proved) {
     println!();
 }
 
+/// A report for two poles beside a run over the same log, by each model.
+fn reports(proved: &Proved) {
+    println!("| log | records | | million records a second, run | report | report's time over the run's |");
+    println!("|---|---|---|---|---|---|");
+    for Measured { name, log, records, .. } in [
+        logs::mixed(2_000_000),
+        logs::samples(60_000),
+        logs::sampled_transfers(20_000),
+    ] {
+        for (model, (run, report)) in ["proved", "independent"].into_iter().zip(report_times(proved, &log)) {
+            let millions = |seconds: f64| records as f64 / seconds / 1e6;
+            println!(
+                "| {name} | {records} | {model} | {:.2} | {:.2} | {:.2} |",
+                millions(run),
+                millions(report),
+                report / run
+            );
+        }
+    }
+    println!();
+}
+
+/// The median times of a run and of a report, by the proved model and by the independent one, all four in turn.
+fn report_times(proved: &Proved, log: &[u8]) -> [(f64, f64); 2] {
+    let room = cobblehard::replies_room(log.len());
+    let (mut replies, mut others) = (vec![0; room], vec![0; room]);
+    let (mut figures, mut other_figures) = ([0; 25], [0; 25]);
+    let (mut end, mut other_end) = ((0, 0, 0), (0, 0, 0));
+    let [ran, reported, other_ran, other_reported] = in_turn([
+        &mut || run(proved, log, &mut replies),
+        &mut || end = proved.speeds(log, POLES, &mut figures),
+        &mut || run(&Independent, log, &mut others),
+        &mut || other_end = Independent.speeds(log, POLES, &mut other_figures),
+    ]);
+    assert!(
+        (end, figures) == (other_end, other_figures),
+        "the models reported otherwise"
+    );
+    assert!(end.0 == 0, "the report comes to the end of the log");
+    [(ran, reported), (other_ran, other_reported)]
+}
+
 /// Time a record, as the log grows.
 fn growth(proved: &Proved) {
     println!("| log | bytes | records | proved, ns a record | independent, ns a record |");
     println!("|---|---|---|---|---|");
     for bytes in [500_000, 1_000_000, 2_000_000, 4_000_000, 8_000_000] {
         let Measured { name, log, records, .. } = logs::mixed(bytes);
-        let (ours, theirs) = run_times(proved, &log);
+        let [ours, theirs] = run_times(proved, &log);
         let each = |seconds: f64| seconds * 1e9 / records as f64;
         println!(
             "| {name} | {} | {records} | {:.1} | {:.1} |",
@@ -140,7 +185,7 @@ fn listings(proved: &Proved, other: &Path) {
         let lines = Independent.list(&log);
         assert!(proved.list(&log) == lines, "the programs list otherwise");
         let lines = lines.expect("the model lists every log");
-        let (ours, theirs) = both(|| list(&proved.program, &file), || list(other, &file));
+        let [ours, theirs] = in_turn([&mut || list(&proved.program, &file), &mut || list(other, &file)]);
         std::fs::remove_file(&file).expect("the file is there");
         for (what, bytes) in [("MB of log", log.len()), ("MB of lines", lines.len())] {
             let speed = |seconds: f64| bytes as f64 / seconds / 1e6;
