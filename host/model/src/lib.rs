@@ -1,4 +1,4 @@
-//! A model of the EMC2305 five-fan controller and of its event logs, by the rules of document 01.
+//! A model of the EMC2305 five-fan controller and of its event logs, by the rules of documents 01 and 02.
 
 #![forbid(unsafe_code)]
 
