@@ -24,21 +24,23 @@ extern "C" {
  * 5 for what is 5, 9, 10 and 11 now. */
 #define COBBLEHARD_VERSION 2
 
-/* Numbers given back. A run walks on after 6 and 7, and no function here returns them. */
+/* Numbers given back. A run walks on after 6 and 7, and no function here returns them. There is no 12. */
 enum cobblehard_number {
-    COBBLEHARD_TAKEN = 0,          /* taken */
-    COBBLEHARD_CUT_SHORT = 1,      /* the log ends inside a record */
-    COBBLEHARD_WRONG_MARK = 2,     /* a mark byte is wrong: of as many as are there */
-    COBBLEHARD_UNKNOWN_KIND = 3,   /* unknown kind */
-    COBBLEHARD_WRONG_LENGTH = 4,   /* length not allowed for the kind */
-    COBBLEHARD_WRONG_FAN = 5,      /* no such fan: outside 1..5 */
-    COBBLEHARD_NO_POWER = 6,       /* event before any power-on: any but a power-on */
-    COBBLEHARD_ELSEWHERE = 7,      /* transfer to another address */
-    COBBLEHARD_NO_ROOM = 8,        /* buffer too short: for the reply or record */
-    COBBLEHARD_WRONG_COUNT = 9,    /* count out of range: of a tach sample, above 8191; of a wish to be written, a drive above 255 */
-    COBBLEHARD_WRONG_ADDRESS = 10, /* address out of range: above 127 */
-    COBBLEHARD_WRONG_BYTES = 11    /* length or clocked number of a transfer out of range: a read's length byte is not 2, or its clocked
-                                      number outside 1..32; of a transfer to be written also more than 32 bytes */
+    COBBLEHARD_TAKEN = 0,            /* taken */
+    COBBLEHARD_CUT_SHORT = 1,        /* the log ends inside a record */
+    COBBLEHARD_WRONG_MARK = 2,       /* a mark byte is wrong: of as many as are there */
+    COBBLEHARD_UNKNOWN_KIND = 3,     /* unknown kind */
+    COBBLEHARD_WRONG_LENGTH = 4,     /* length not allowed for the kind */
+    COBBLEHARD_WRONG_FAN = 5,        /* no such fan: outside 1..5 */
+    COBBLEHARD_NO_POWER = 6,         /* event before any power-on: any but a power-on */
+    COBBLEHARD_ELSEWHERE = 7,        /* transfer to another address */
+    COBBLEHARD_NO_ROOM = 8,          /* buffer too short: for the reply or record */
+    COBBLEHARD_WRONG_COUNT = 9,      /* count out of range: of a tach sample, above 8191; of a wish to be written, a drive above 255 */
+    COBBLEHARD_WRONG_ADDRESS = 10,   /* address out of range: above 127 */
+    COBBLEHARD_WRONG_BYTES = 11,     /* length or clocked number of a transfer out of range: a read's length byte is not 2, or its clocked
+                                        number outside 1..32; of a transfer to be written also more than 32 bytes */
+    COBBLEHARD_WRONG_POLES = 13,     /* poles out of range: outside 1..4 */
+    COBBLEHARD_TOO_MANY_SAMPLES = 14 /* too many samples of a fan: above 65,535 in a report of speeds */
 };
 
 /* The kinds of events. */
@@ -77,6 +79,8 @@ static inline const char *cobblehard_words(uint8_t number)
     case COBBLEHARD_WRONG_COUNT: return "count out of range";
     case COBBLEHARD_WRONG_ADDRESS: return "address out of range";
     case COBBLEHARD_WRONG_BYTES: return "length or clocked number of a transfer out of range";
+    case COBBLEHARD_WRONG_POLES: return "poles out of range";
+    case COBBLEHARD_TOO_MANY_SAMPLES: return "too many samples of a fan";
     default: return "no such number";
     }
 }

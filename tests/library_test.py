@@ -52,8 +52,9 @@ def check_header(folder):
 
 WORDS = ["taken", "the log ends inside a record", "a mark byte is wrong", "unknown kind", "length not allowed for the kind",
          "no such fan", "event before any power-on", "transfer to another address", "buffer too short", "count out of range",
-         "address out of range", "length or clocked number of a transfer out of range"]
-WORDS_CASES = [(f"words {number}", words) for number, words in enumerate(WORDS + ["no such number"])]
+         "address out of range", "length or clocked number of a transfer out of range", "no such number", "poles out of range",
+         "too many samples of a fan", "no such number"]
+WORDS_CASES = [(f"words {number}", words) for number, words in enumerate(WORDS)]
 
 
 def wrong(expected, answer):

@@ -2,7 +2,7 @@
 use std::error::Error;
 use std::fmt;
 
-/// Why an event, a record or a run was refused. A later version may have more.
+/// Why an event, a record, a run or a report was refused. A later version may have more.
 #[derive(Clone, Copy, Debug, PartialEq, Eq, Hash)]
 #[non_exhaustive]
 #[repr(u8)]
@@ -22,10 +22,14 @@ pub enum Reason {
     WrongAddress = 10,
     /// A read whose length byte is not 2, a clocked number outside 1..=32, or more than 32 bytes to be written.
     WrongBytes = 11,
+    /// Poles outside 1..=4.
+    WrongPoles = 13,
+    /// More than 65,535 samples of a fan in a report of speeds.
+    TooManySamples = 14,
 }
 
 impl Reason {
-    const ALL: [Reason; 11] = [
+    const ALL: [Reason; 13] = [
         Reason::EndsInsideRecord,
         Reason::WrongMark,
         Reason::UnknownKind,
@@ -37,11 +41,13 @@ impl Reason {
         Reason::WrongCount,
         Reason::WrongAddress,
         Reason::WrongBytes,
+        Reason::WrongPoles,
+        Reason::TooManySamples,
     ];
 
-    /// The reason with this number; none for 0, which stands for taken, and for those past 11.
+    /// The reason with this number; none for 0, which stands for taken, for 12, and for those past 14.
     pub fn of_number(number: u8) -> Option<Reason> {
-        Reason::ALL.get(usize::from(number).checked_sub(1)?).copied()
+        Reason::ALL.into_iter().find(|reason| reason.number() == number)
     }
 
     pub fn number(self) -> u8 {
@@ -62,10 +68,12 @@ impl Reason {
             Reason::WrongCount => "count out of range",
             Reason::WrongAddress => "address out of range",
             Reason::WrongBytes => "length or clocked number of a transfer out of range",
+            Reason::WrongPoles => "poles out of range",
+            Reason::TooManySamples => "too many samples of a fan",
         }
     }
 
-    /// What a number that the library gave says; none for 0. It gives none past 11: that is proved of it.
+    /// What a number that the library gave says; none for 0. It gives no other that has no reason: that is proved of it.
     pub(crate) fn given(number: u8) -> Option<Reason> {
         let reason = Reason::of_number(number);
         assert!(

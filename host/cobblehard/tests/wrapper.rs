@@ -24,27 +24,30 @@ const EVENTS: [Event<'static>; 3] = [
 
 const HEADER: &str = include_str!("../../../include/cobblehard.h");
 
-/// Every number from 0 on: its name in the header, and its words.
-const NUMBERS: [(&str, &str); 12] = [
-    ("COBBLEHARD_TAKEN", "taken"),
-    ("COBBLEHARD_CUT_SHORT", "the log ends inside a record"),
-    ("COBBLEHARD_WRONG_MARK", "a mark byte is wrong"),
-    ("COBBLEHARD_UNKNOWN_KIND", "unknown kind"),
-    ("COBBLEHARD_WRONG_LENGTH", "length not allowed for the kind"),
-    ("COBBLEHARD_WRONG_FAN", "no such fan"),
-    ("COBBLEHARD_NO_POWER", "event before any power-on"),
-    ("COBBLEHARD_ELSEWHERE", "transfer to another address"),
-    ("COBBLEHARD_NO_ROOM", "buffer too short"),
-    ("COBBLEHARD_WRONG_COUNT", "count out of range"),
-    ("COBBLEHARD_WRONG_ADDRESS", "address out of range"),
+/// Every number with its name in the header, and its words.
+const NUMBERS: [(u8, &str, &str); 14] = [
+    (0, "COBBLEHARD_TAKEN", "taken"),
+    (1, "COBBLEHARD_CUT_SHORT", "the log ends inside a record"),
+    (2, "COBBLEHARD_WRONG_MARK", "a mark byte is wrong"),
+    (3, "COBBLEHARD_UNKNOWN_KIND", "unknown kind"),
+    (4, "COBBLEHARD_WRONG_LENGTH", "length not allowed for the kind"),
+    (5, "COBBLEHARD_WRONG_FAN", "no such fan"),
+    (6, "COBBLEHARD_NO_POWER", "event before any power-on"),
+    (7, "COBBLEHARD_ELSEWHERE", "transfer to another address"),
+    (8, "COBBLEHARD_NO_ROOM", "buffer too short"),
+    (9, "COBBLEHARD_WRONG_COUNT", "count out of range"),
+    (10, "COBBLEHARD_WRONG_ADDRESS", "address out of range"),
     (
+        11,
         "COBBLEHARD_WRONG_BYTES",
         "length or clocked number of a transfer out of range",
     ),
+    (13, "COBBLEHARD_WRONG_POLES", "poles out of range"),
+    (14, "COBBLEHARD_TOO_MANY_SAMPLES", "too many samples of a fan"),
 ];
 
-/// Those from 1 on.
-const REASONS: [Reason; 11] = [
+/// Those behind the first, which is no refusal.
+const REASONS: [Reason; 13] = [
     Reason::EndsInsideRecord,
     Reason::WrongMark,
     Reason::UnknownKind,
@@ -56,6 +59,8 @@ const REASONS: [Reason; 11] = [
     Reason::WrongCount,
     Reason::WrongAddress,
     Reason::WrongBytes,
+    Reason::WrongPoles,
+    Reason::TooManySamples,
 ];
 
 /// What cannot be read: its number, and the place of the first faulty byte. Where there are two faults, reading's order
@@ -405,12 +410,12 @@ fn events_appended() {
 
 #[test]
 fn reasons_with_number_and_words() {
-    for ((number, (_, words)), reason) in (0..).zip(NUMBERS).skip(1).zip(REASONS) {
+    for ((number, _, words), reason) in NUMBERS.into_iter().skip(1).zip(REASONS) {
         assert_eq!(Reason::of_number(number), Some(reason));
         assert_eq!((reason.number(), reason.words()), (number, words));
     }
-    assert_eq!(Reason::of_number(0), None);
-    assert!((12..=255).all(|number| Reason::of_number(number).is_none()));
+    let mut others = (15..=255).chain([0, 12]);
+    assert!(others.all(|number| Reason::of_number(number).is_none()));
 }
 
 #[test]
@@ -446,16 +451,15 @@ fn the_header_has_the_same_numbers() {
         let words = comment.split([':', '*']).next().expect("words");
         (constant.trim().trim_end_matches(',').to_string(), words.trim())
     });
-    let expected = NUMBERS.iter().zip(0..);
-    let expected = expected.map(|(&(name, words), number): (_, u8)| (format!("{name} = {number}"), words));
-    assert_eq!(constants.collect::<Vec<_>>(), expected.collect::<Vec<_>>());
+    let expected = NUMBERS.map(|(number, name, words)| (format!("{name} = {number}"), words));
+    assert_eq!(constants.collect::<Vec<_>>(), expected);
 }
 
 #[test]
 fn the_header_has_the_same_words() {
     let cases = header_lines("static inline const char *cobblehard_words(").filter(|line| line.contains("return"));
     let mut expected = NUMBERS
-        .map(|(name, words)| format!("case {name}: return \"{words}\";"))
+        .map(|(_, name, words)| format!("case {name}: return \"{words}\";"))
         .to_vec();
     expected.push("default: return \"no such number\";".to_string());
     assert_eq!(cases.collect::<Vec<_>>(), expected);
