@@ -21,8 +21,8 @@ extern "C" {
 #endif
 
 /* Goes up whenever a function or a constant of this file changes, or what a function of the library answers. Version 1 had no macro, and gave
- * 5 for what is 5, 9, 10 and 11 now. */
-#define COBBLEHARD_VERSION 2
+ * 5 for what is 5, 9, 10 and 11 now. Version 2 had no speeds. */
+#define COBBLEHARD_VERSION 3
 
 /* Numbers given back. A run walks on after 6 and 7, and no function here returns them. There is no 12. */
 enum cobblehard_number {
@@ -61,6 +61,9 @@ enum cobblehard_direction {
 
 /* What eventlog_fault answers where there is no fault. */
 #define COBBLEHARD_NO_FAULT UINT64_MAX
+
+/* How many figures a report of speeds has: five for each of five fans. */
+#define COBBLEHARD_FIGURES 25
 
 /* A number in words, in a string that lives as long as the program. The words are for people and promise nothing: go by the number.
  * It is here and not in the library, which is lent slices and gives numbers, and has no data of its own to point to. */
@@ -105,6 +108,52 @@ uint8_t emc2305_run_number(const uint8_t *log, size_t log_length, uint8_t *repli
 uint64_t emc2305_run_place(const uint8_t *log, size_t log_length, uint8_t *replies, size_t replies_length);
 uint64_t emc2305_run_records(const uint8_t *log, size_t log_length, uint8_t *replies, size_t replies_length);
 uint64_t emc2305_run_reply_bytes(const uint8_t *log, size_t log_length, uint8_t *replies, size_t replies_length);
+
+/* The speed of a tach sample, in whole RPM, is
+ *
+ *   60 x 32768 x (edges - 1) x m / (poles x count)   in one division, rounded down, with
+ *
+ *   edges   3, 5, 7 or 9, as bits 3..4 of Configuration 1 are 0, 1, 2 or 3
+ *   m       1, 2, 4 or 8, as bits 5..6 of Configuration 1 are 0, 1, 2 or 3
+ *   poles   1 to 4, a plain number to divide by, given once for all fans
+ *   count   the sample's own, as it stands in the log; a sample with count 0 has no speed
+ *
+ * Configuration 1 is register 32h of fan 1, 42h of fan 2, and so on to 72h, at the time of the sample. Power-on sets it to 2Bh: m is 2 and
+ * edges 5, so that the speed is 15728640 / (poles x count).
+ */
+
+/* Reports the speeds over a whole log, exactly: an unpowered chip is run over it, and every sample that it takes counts for its fan.
+ *
+ * Each fan has five figures, those of fan i from figures[5 * (i - 1)] on:
+ *   +0  the number of its samples with a count above 0
+ *   +1  the lowest of their speeds
+ *   +2  the highest
+ *   +3  the total, to which each adds its whole RPM; at most 65,535 samples of at most 125,829,120 RPM fit in 64 bits
+ *   +4  the number of its samples with count 0, which are in none of the other figures
+ * The first four are 0 where the fan has no sample with a speed. The figures are of the whole log: no power-on sets them to 0, whatever its
+ * address. A sample that is refused, before any power-on, counts nowhere.
+ *
+ * `figures_length` is a number of entries. As many of the 25 figures are laid as `figures` has room for, from its front; entries past the
+ * 25th stay as they were. So the room stops no report, and 8 is never returned: replies are not laid at all.
+ *
+ * Like a run it walks on after 6 and 7, and sets *place and *records. Returns
+ *   0               at the end of the log
+ *   13              for poles outside 1..4, before the log is read: all figures are 0, and so are *place and *records
+ *   14              at the 65,536th sample of a fan, those with count 0 included
+ *   1 to 5, 9 to 11 at a record that cannot be read, a 65,536th sample too; eventlog_fault tells the byte
+ * After any but 13 the figures are those of the records before *place.
+ */
+uint8_t emc2305_speeds(const uint8_t *log, size_t log_length, uint64_t poles, uint64_t *figures, size_t figures_length,
+                       uint64_t *place, uint64_t *records);
+
+/* The speed of one sample, by the fan's Configuration 1 and the sample's count. It is 0 where the count is 0 or poles outside 1..4, and only
+ * there: the least of a count up to 8191 is 120. Counts above, which no sample has, go by the formula too. */
+uint32_t emc2305_rpm(uint64_t poles, uint8_t configuration1, uint16_t count);
+
+/* A fixed table for two poles, five edges and m = 2, by the high byte of a fan's reading (registers 3Eh, 4Eh and so on to 7Eh): 245760 /
+ * high_byte, rounded down; 0 for the byte 0. It is rough: the high byte is the count / 32, rounded down. The table has the speed of the count
+ * 32 x high_byte, and the true speed is that or lower; by the byte 0 the count is below 32, and nothing is said. The report does not use it. */
+uint32_t emc2305_rpm_by_high_byte(uint8_t high_byte);
 
 /* An event as numbers, by its kind:
  *
