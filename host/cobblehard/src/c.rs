@@ -13,6 +13,20 @@ extern "C" {
         reply_bytes: *mut u64,
     ) -> u8;
 
+    pub fn emc2305_speeds(
+        log: *const u8,
+        log_length: usize,
+        poles: u64,
+        figures: *mut u64,
+        figures_length: usize,
+        place: *mut u64,
+        records: *mut u64,
+    ) -> u8;
+
+    pub fn emc2305_rpm(poles: u64, configuration1: u8, count: u16) -> u32;
+
+    pub fn emc2305_rpm_by_high_byte(high_byte: u8) -> u32;
+
     pub fn eventlog_read(
         log: *const u8,
         log_length: usize,

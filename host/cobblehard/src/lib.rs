@@ -17,6 +17,25 @@
 //! # Ok::<(), cobblehard::Refusal>(())
 //! ```
 //!
+//! The speeds of the fans over a log, in whole RPM:
+//!
+//! ```
+//! use cobblehard::{speeds, Event};
+//!
+//! let mut log = Vec::new();
+//! for event in [
+//!     Event::PowerOn { address: 0x2C },
+//!     Event::Sample { fan: 1, count: 2048 },
+//!     Event::Sample { fan: 1, count: 1024 },
+//! ] {
+//!     event.append_to(&mut log)?;
+//! }
+//! let report = speeds(&log, 2); // two poles: 7864320 / count, as Configuration 1 is after power-on
+//! assert_eq!(report.stop, None);
+//! assert_eq!((report.fans[0].lowest, report.fans[0].highest), (3840, 7680));
+//! # Ok::<(), cobblehard::Refusal>(())
+//! ```
+//!
 //! It needs libcobblehard.a, which `rt staticlib cobblehard` makes; see build.rs.
 
 #[cfg(not(all(target_arch = "x86_64", target_os = "linux", target_pointer_width = "64")))]
@@ -26,7 +45,9 @@ mod c;
 mod event;
 mod refusal;
 mod run;
+mod speeds;
 
 pub use event::{read, records, Event, Records, LONGEST_RECORD};
 pub use refusal::{Reason, Refusal};
 pub use run::{replies_room, run, run_into, Run};
+pub use speeds::{rpm, rpm_by_high_byte, speeds, speeds_into, Figures, Speeds};

@@ -109,7 +109,8 @@ impl Refusal {
     }
 
     /// The place in the log of the first faulty byte; of a log that ends inside a record, where the first missing byte would
-    /// stand. None where no log was read, as in writing, and where a run had no room.
+    /// stand. None where a record is not at fault: in writing, where a run has no room, and at the poles and the number of
+    /// samples of a report.
     pub fn place(&self) -> Option<usize> {
         self.place
     }

@@ -63,10 +63,10 @@ pub fn run_into(log: &[u8], replies: &mut [u8]) -> Run {
     }
 }
 
-/// A run that has no room stops at a record that can be read; any other stops at one that cannot.
-fn stop(reason: Reason, log: &[u8], place: usize) -> Refusal {
+/// What stopped a run or a report at a place: the record there can be read, or is not looked at, or else is at fault.
+pub(crate) fn stop(reason: Reason, log: &[u8], place: usize) -> Refusal {
     match reason {
-        Reason::NoRoom => Refusal::new(reason, None),
+        Reason::NoRoom | Reason::WrongPoles | Reason::TooManySamples => Refusal::new(reason, None),
         _ => refused(reason, log, place),
     }
 }

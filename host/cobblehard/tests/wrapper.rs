@@ -1,5 +1,6 @@
 //! The safe wrapper, by document 01's own figures.
-use cobblehard::{read, records, run, run_into, Event, Reason, Refusal, Run, LONGEST_RECORD};
+use cobblehard::{read, records, rpm, rpm_by_high_byte, run, run_into, speeds, speeds_into};
+use cobblehard::{Event, Figures, Reason, Refusal, Run, Speeds, LONGEST_RECORD};
 use std::collections::BTreeSet;
 use std::error::Error;
 use std::fmt::Debug;
@@ -463,4 +464,205 @@ fn the_header_has_the_same_words() {
         .to_vec();
     expected.push("default: return \"no such number\";".to_string());
     assert_eq!(cases.collect::<Vec<_>>(), expected);
+}
+
+// ---- speeds ----
+
+/// Out of range, and what a narrower number would take for one in range.
+const WRONG_POLES: [u64; 9] = [0, 5, 255, 256, 257, 65_538, 1 << 32, (1 << 32) + 3, u64::MAX];
+
+fn log_of(events: &[Event]) -> Vec<u8> {
+    let mut log = Vec::new();
+    for event in events {
+        event.append_to(&mut log).expect("an event in range");
+    }
+    log
+}
+
+fn power_on(address: u8) -> Event<'static> {
+    Event::PowerOn { address }
+}
+
+fn sample(fan: u8, count: u16) -> Event<'static> {
+    Event::Sample { fan, count }
+}
+
+fn send(bytes: &[u8]) -> Event<'_> {
+    Event::Write { address: 0x2C, bytes }
+}
+
+fn figures([samples, lowest, highest, total, zeros]: [u64; 5]) -> Figures {
+    Figures {
+        samples,
+        lowest,
+        highest,
+        total,
+        zeros,
+    }
+}
+
+/// Number and faulty byte of a report, its place and the records walked.
+fn ended(report: &Speeds) -> (u8, Option<usize>, usize, usize) {
+    let fault = report.stop.and_then(|refusal| refusal.place());
+    (report.number(), fault, report.place, report.records)
+}
+
+/// 60 x 32768 is 1966080.
+#[test]
+fn the_speed_of_a_sample() {
+    assert_eq!(rpm(1, 0x00, 1), 3_932_160); // x 2 x 1, by 3 edges and m = 1
+    assert_eq!(rpm(1, 0x87, 1), 3_932_160); // the other bits do not matter
+    assert_eq!(rpm(1, 0x10, 1), 11_796_480); // x 6 x 1
+    assert_eq!(rpm(1, 0x18, 1), 15_728_640); // x 8 x 1
+    assert_eq!(rpm(1, 0x40, 1), 15_728_640); // x 2 x 4
+    assert_eq!(rpm(1, 0x60, 1), 31_457_280); // x 2 x 8
+    assert_eq!(rpm(1, 0x78, 1), 125_829_120); // x 8 x 8, the most
+    assert_eq!(rpm(2, 0x2B, 3000), 2621); // x 4 x 2 / 6000 = 2621.44
+    assert_eq!(rpm(3, 0x2B, 1000), 5242); // x 4 x 2 / 3000 = 5242.88
+    assert_eq!(rpm(4, 0x00, 8191), 120); // x 2 x 1 / 32764 = 120.01, the least of a sample
+    assert_eq!(rpm(4, 0x00, 65_535), 15); // x 2 x 1 / 262140 = 15.0002
+}
+
+#[test]
+fn no_speed() {
+    assert!((1..=4).all(|poles| rpm(poles, 0x2B, 0) == 0));
+    assert!(WRONG_POLES.into_iter().all(|poles| rpm(poles, 0x2B, 1000) == 0));
+}
+
+#[test]
+fn the_table_by_high_byte() {
+    let some = [0, 1, 2, 7, 254, 255].map(rpm_by_high_byte);
+    assert_eq!(some, [0, 245_760, 122_880, 35_108, 967, 963]); // 245760 / 7 = 35108.57, / 254 = 967.55, / 255 = 963.76
+    assert!((1..=255).all(|byte| rpm_by_high_byte(byte) == rpm(2, 0x2B, 32 * u16::from(byte))));
+}
+
+/// Each fan by its own Configuration 1, and samples with count 0 apart.
+#[test]
+fn a_report() {
+    let log = log_of(&[
+        power_on(0x2C),
+        send(&[0x42, 0x78]),
+        send(&[0x50, 0x80, 0x01, 0x00]), // a block up to 52h
+        sample(1, 2048),                 // 7864320 / 2048 = 3840
+        sample(1, 3000),                 // 7864320 / 3000 = 2621.44
+        sample(1, 8191),                 // 7864320 / 8191 = 960.1
+        sample(2, 1),                    // 62914560, by 9 edges and m = 8
+        sample(2, 0),
+        sample(2, 8191), // 62914560 / 8191 = 7680.9
+        sample(3, 8191), // 1966080 / 8191 = 240.03, by 3 edges and m = 1
+        sample(4, 0),
+        sample(4, 0),
+    ]);
+    let report = speeds(&log, 2);
+    assert_eq!(ended(&report), (0, None, log.len(), 12));
+    let expected = [
+        [3, 960, 3840, 7421, 0],
+        [2, 7680, 62_914_560, 62_922_240, 1],
+        [1, 240, 240, 240, 0],
+        [0, 0, 0, 0, 2],
+        [0, 0, 0, 0, 0],
+    ];
+    assert_eq!(report.fans, expected.map(figures));
+    let means = report.fans.map(|fan| fan.mean()); // 7421 / 3 = 2473.67, 62922240 / 2
+    assert_eq!(means, [Some(2473), Some(31_461_120), Some(240), None, None]);
+}
+
+/// 6 and 7 are walked over and change nothing. A power-on sets Configuration 1 back, and no figure.
+#[test]
+fn a_report_over_two_power_ons() {
+    let log = log_of(&[
+        sample(1, 1),
+        power_on(0x2D),
+        send(&[0x32, 0x78]), // to another address
+        sample(1, 4096),     // 15728640 / 4096 = 3840
+        power_on(0x2C),
+        send(&[0x32, 0x78]),
+        sample(1, 4096), // 125829120 / 4096 = 30720
+        power_on(0x2C),
+        sample(1, 4096), // 3840
+    ]);
+    let report = speeds(&log, 1);
+    assert_eq!(ended(&report), (0, None, log.len(), 9));
+    assert_eq!(report.fans[0], figures([3, 3840, 30_720, 38_400, 0]));
+    assert_eq!(report.fans[1..], [Figures::default(); 4]);
+}
+
+/// No reply is laid, so that none lacks room.
+#[test]
+fn a_report_over_reads() {
+    let log = LOG.repeat(3);
+    assert_eq!(ended(&speeds(&log, 4)), (0, None, 54, 9));
+    assert_eq!(speeds_into(&log, 4, &mut []), (0, 54, 9));
+    assert_eq!(ended(&speeds(&[], 4)), (0, None, 0, 0));
+}
+
+#[test]
+fn what_cannot_be_read_ends_a_report() {
+    let before = log_of(&[power_on(0x2C), sample(5, 2048)]);
+    for (bytes, number, fault) in FAULTS {
+        let report = speeds(&[&before, bytes].concat(), 2);
+        assert_eq!(ended(&report), (number, Some(12 + fault), 12, 2), "{bytes:02X?}");
+        assert_eq!(report.fans[4], figures([1, 3840, 3840, 3840, 0]), "{bytes:02X?}");
+    }
+}
+
+#[test]
+fn wrong_poles_are_refused_before_the_log_is_read() {
+    for poles in WRONG_POLES {
+        for log in [&LOG[..], &[0x9D], &[]] {
+            let report = speeds(log, poles);
+            assert_eq!(ended(&report), (13, None, 0, 0), "{poles}");
+            assert_eq!(report.fans, [Figures::default(); 5], "{poles}");
+            let mut figures = [7; 26];
+            assert_eq!(speeds_into(log, poles, &mut figures), (13, 0, 0), "{poles}");
+            assert_eq!(figures, [[0; 25].as_slice(), &[7]].concat()[..], "{poles}");
+        }
+    }
+    let refusal = speeds(&LOG, 0).stop.expect("a refusal");
+    assert_eq!(refusal.reason(), Reason::WrongPoles);
+    assert_eq!(refusal.to_string(), "refused with 13, poles out of range");
+}
+
+#[test]
+fn as_many_figures_as_have_room() {
+    let log = log_of(&[power_on(0x2C), sample(1, 2048), sample(5, 0), sample(5, 1024)]);
+    let mut all = [0; 25];
+    all[..4].copy_from_slice(&[1, 3840, 3840, 3840]); // 7864320 / 2048
+    all[20..].copy_from_slice(&[1, 7680, 7680, 7680, 1]); // 7864320 / 1024
+    for room in [0, 1, 4, 5, 6, 24, 25, 26, 100] {
+        let mut figures = vec![7; room];
+        assert_eq!(speeds_into(&log, 2, &mut figures), (0, 26, 4), "{room}");
+        let expected: Vec<u64> = all.into_iter().chain([7; 75]).take(room).collect();
+        assert_eq!(figures, expected, "{room}");
+    }
+}
+
+/// 65,535 samples of fan 1, of which one has count 0 and the others 15728640 / 2 = 7864320 with one pole; then another one.
+#[test]
+fn the_sample_past_65535() {
+    let mut log = log_of(&[power_on(0x2C), sample(1, 0)]);
+    log.extend(log_of(&[sample(1, 2)]).repeat(65_534));
+    let first = figures([65_534, 7_864_320, 7_864_320, 515_380_346_880, 1]);
+    let report_with = |events: &[Event]| speeds(&[&log[..], &log_of(events)].concat(), 1);
+    let full = (458_750, 65_536); // 5 + 65535 x 7 bytes, and 1 + 65535 records
+
+    let report = report_with(&[]);
+    assert_eq!((ended(&report), report.fans[0]), ((0, None, full.0, full.1), first));
+    for count in [0, 2, 8191] {
+        let report = report_with(&[sample(1, count), sample(2, 2)]);
+        assert_eq!((ended(&report), report.fans[0]), ((14, None, full.0, full.1), first));
+        assert_eq!(report.fans[1], Figures::default());
+    }
+    let report = report_with(&[power_on(0x2D), sample(2, 2), sample(1, 2)]);
+    assert_eq!(
+        (ended(&report), report.fans[0]),
+        ((14, None, full.0 + 12, full.1 + 2), first)
+    );
+    assert_eq!(report.fans[1], figures([1, 7_864_320, 7_864_320, 7_864_320, 0]));
+    let refusal = report.stop.expect("a refusal");
+    assert_eq!(refusal.reason(), Reason::TooManySamples);
+    assert_eq!(refusal.to_string(), "refused with 14, too many samples of a fan");
+
+    let report = speeds(&[&log[..], &[0x9C, 0x46, 0x03, 0x03, 0x01, 0x00, 0x20]].concat(), 1);
+    assert_eq!(ended(&report), (9, Some(full.0 + 5), full.0, full.1));
 }
