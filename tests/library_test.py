@@ -50,6 +50,7 @@ def check_header(folder):
 
 # ---- the cases ----
 
+CALLS = ["run", "read", "write", "speeds", "rpm", "rpm_by_high_byte"]
 WORDS = ["taken", "the log ends inside a record", "a mark byte is wrong", "unknown kind", "length not allowed for the kind",
          "no such fan", "event before any power-on", "transfer to another address", "buffer too short", "count out of range",
          "address out of range", "length or clocked number of a transfer out of range", "no such number", "poles out of range",
@@ -126,9 +127,10 @@ def main():
         sys.exit(__doc__)
     library = pathlib.Path(sys.argv[1]).resolve()
     cases = host.expected("library")
-    runs, reads, writes = (sum(line.startswith(word) for line, _ in cases) for word in ("run ", "read ", "write "))
-    if not (runs and reads and writes):
-        fail("host/expected", f"{runs} runs, {reads} reads and {writes} writes")
+    counts = {word: sum(line.startswith(word + " ") for line, _ in cases) for word in CALLS}
+    counted = ", ".join(f"{count} of {word}" for word, count in counts.items())
+    if not all(counts.values()):
+        fail("host/expected", counted)
     with tempfile.TemporaryDirectory() as path:
         check_header(pathlib.Path(path))
     for name, flags in BUILDS.items():
@@ -136,8 +138,7 @@ def main():
             folder = pathlib.Path(path)
             check_example(name, build(library, folder, "example", flags), folder)
             check_cases(name, build(library, folder, "check", flags), cases + WORDS_CASES)
-    print(f"library_test: {runs} runs, {reads} reads and {writes} writes as expected in {len(BUILDS)} builds; "
-          f"the words and the example too")
+    print(f"library_test: {counted} as expected in {len(BUILDS)} builds; the words and the example too")
 
 
 if __name__ == "__main__":

@@ -3,9 +3,13 @@
  *   run ROOM LOG                      number place records reply_bytes BUFFER
  *   read PLACE LOG                    number kind unit value bytes_place bytes_length next fault
  *   write KIND UNIT VALUE ROOM BYTES  number written BUFFER
+ *   speeds POLES ROOM LOG             number place records ENTRIES
+ *   rpm POLES CONFIGURATION1 COUNT    rpm
+ *   rpm_by_high_byte BYTE             rpm
  *   words NUMBER                      the number's words
  *
- * LOG, BYTES and BUFFER are in hex, and "." is none. As LOG, BYTES or ROOM, "-" is none too, by a pointer that is NULL.
+ * LOG, BYTES and BUFFER are in hex, ENTRIES are numbers of 64 bits, and "." is none. As LOG, BYTES or ROOM, "-" is none too,
+ * by a pointer that is NULL.
  * Behind an answer stands what should not be: a plain run that differs from emc2305_run, bytes changed before a buffer.
  *
  * The library is not built with a sanitizer. So what is lent to it ends where a page begins that cannot be touched, and
@@ -72,9 +76,10 @@ static struct lent lend_null(void)
     return (struct lent){NULL, 0, NULL, 0};
 }
 
-static struct lent lend_room(const char *room)
+/* Room for so many entries of a size. */
+static struct lent lend_room(const char *room, size_t size)
 {
-    return strcmp(room, "-") == 0 ? lend_null() : lend(parse(room));
+    return strcmp(room, "-") == 0 ? lend_null() : lend(parse(room) * size);
 }
 
 static uint8_t digit(char c)
@@ -127,6 +132,18 @@ static void print_bytes(struct lent lent)
         putchar('.');
 }
 
+static void print_entries(struct lent lent)
+{
+    uint64_t entry;
+
+    for (size_t i = 0; i < lent.length; i += sizeof entry) {
+        memcpy(&entry, lent.bytes + i, sizeof entry);
+        printf(" %" PRIu64, entry);
+    }
+    if (lent.length == 0)
+        fputs(" .", stdout);
+}
+
 static bool same_bytes(struct lent a, struct lent b)
 {
     return a.length == b.length && (a.length == 0 || memcmp(a.bytes, b.bytes, a.length) == 0);
@@ -151,7 +168,7 @@ static const struct plain {
 /* Says where a plain run on a fresh buffer does not give what the whole run gave. */
 static void compare_plain(struct plain plain, const char *room, struct lent log, uint64_t answer, struct lent replies)
 {
-    struct lent fresh = lend_room(room);
+    struct lent fresh = lend_room(room, 1);
     uint64_t given = plain.run(log.bytes, log.length, fresh.bytes, fresh.length);
 
     if (given != answer || !same_bytes(fresh, replies)) {
@@ -164,7 +181,7 @@ static void compare_plain(struct plain plain, const char *room, struct lent log,
 static void check_run(const char *room, const char *hex)
 {
     struct lent log = lend_bytes(hex);
-    struct lent replies = lend_room(room);
+    struct lent replies = lend_room(room, 1);
     uint64_t place = PRESET_64, records = PRESET_64, reply_bytes = PRESET_64;
     uint8_t number = emc2305_run(log.bytes, log.length, replies.bytes, replies.length, &place, &records, &reply_bytes);
     const uint64_t answers[] = {number, place, records, reply_bytes};
@@ -194,7 +211,7 @@ static void check_read(const char *place, const char *hex)
 static void check_write(const char *kind, const char *unit, const char *value, const char *room, const char *hex)
 {
     struct lent bytes = lend_bytes(hex);
-    struct lent out = lend_room(room);
+    struct lent out = lend_room(room, 1);
     uint64_t written = PRESET_64;
     uint8_t number = eventlog_write((uint8_t)parse(kind), (uint8_t)parse(unit), (uint16_t)parse(value), bytes.bytes,
                                     bytes.length, out.bytes, out.length, &written);
@@ -203,6 +220,25 @@ static void check_write(const char *kind, const char *unit, const char *value, c
     print_bytes(out);
     take_back(out);
     take_back(bytes);
+}
+
+static void check_speeds(const char *poles, const char *room, const char *hex)
+{
+    struct lent log = lend_bytes(hex);
+    struct lent figures = lend_room(room, sizeof(uint64_t));
+    uint64_t place = PRESET_64, records = PRESET_64;
+    uint8_t number = emc2305_speeds(log.bytes, log.length, parse(poles), (uint64_t *)(void *)figures.bytes,
+                                    figures.length / sizeof(uint64_t), &place, &records);
+
+    printf("%u %" PRIu64 " %" PRIu64, number, place, records);
+    print_entries(figures);
+    take_back(figures);
+    take_back(log);
+}
+
+static void check_rpm(const char *poles, const char *configuration1, const char *count)
+{
+    printf("%" PRIu32, emc2305_rpm(parse(poles), (uint8_t)parse(configuration1), (uint16_t)parse(count)));
 }
 
 static void check(char *line)
@@ -218,6 +254,12 @@ static void check(char *line)
         check_read(words[1], words[2]);
     else if (count == 6 && strcmp(words[0], "write") == 0)
         check_write(words[1], words[2], words[3], words[4], words[5]);
+    else if (count == 4 && strcmp(words[0], "speeds") == 0)
+        check_speeds(words[1], words[2], words[3]);
+    else if (count == 4 && strcmp(words[0], "rpm") == 0)
+        check_rpm(words[1], words[2], words[3]);
+    else if (count == 2 && strcmp(words[0], "rpm_by_high_byte") == 0)
+        printf("%" PRIu32, emc2305_rpm_by_high_byte((uint8_t)parse(words[1])));
     else if (count == 2 && strcmp(words[0], "words") == 0)
         fputs(cobblehard_words((uint8_t)parse(words[1])), stdout);
     else

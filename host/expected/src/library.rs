@@ -2,13 +2,18 @@
 //! explains; the numbers that stand for an event are those of include/cobblehard.h.
 
 use crate::chance::Chance;
-use crate::emc2305::FANS;
+use crate::emc2305::traffic::any_sent;
+use crate::emc2305::{at, CONFIGURATION, FANS, HOME, LOCK};
 use crate::events;
-use crate::logs::{example, random_logs, short, sprinkled, stops, traffic, truncations, written_logs};
-use crate::script::{hex_or, Script};
+use crate::logs::{clock, power_on, power_on_at, sample, send, send_to, ticks};
+use crate::logs::{example, random_logs, short, sprinkled, stops, traffic, truncations, unpowered, written_logs};
+use crate::script::{bytes, hex_or, Script};
+use model::chip::{CONFIGURATION_1, SETTING};
 use model::log::{read, write, Event, ADDRESS, BYTES, COUNT, FAN, UNKNOWN_KIND};
 use model::replay::run;
+use model::speeds::{report, rpm, rpm_by_high_byte};
 use std::collections::BTreeSet;
+use std::iter::repeat;
 
 /// What check.c lays in buffers and numbers before a call.
 const FILL: u8 = 0xEE;
@@ -29,9 +34,11 @@ pub fn script() -> Script {
     logs.extend(random_logs(5032, 40).into_iter().map(|(_, log)| log));
     logs.extend(truncations(&short()).map(<[u8]>::to_vec));
     logs.extend((0..2).map(|_| traffic(&chance, 1000)));
-    for log in logs {
-        run_cases(&mut script, &log, &chance);
+    for log in &logs {
+        run_cases(&mut script, log, &chance);
     }
+    all_speeds_cases(&mut script, &logs);
+    rpm_cases(&mut script);
     let mut logs = vec![vec![], example(), short()];
     logs.extend(stops(&example()[..5], &short()[..12]).into_iter().map(|(_, log)| log));
     logs.extend((0..6).map(|_| sprinkled(&chance, 100)));
@@ -65,6 +72,182 @@ fn run_answer(log: &[u8], room: usize) -> String {
     let run = run(log, &mut replies);
     let numbers = format!("{} {} {} {}", run.number, run.place, run.records, run.reply_bytes);
     format!("{numbers} {}", hex_or(".", &replies))
+}
+
+// ---- speeds ----
+
+/// In range, out of it, and such that their low bits are in range.
+const POLES: [u64; 14] = [
+    0,
+    1,
+    2,
+    3,
+    4,
+    5,
+    255,
+    256,
+    257,    // 1 in 8 bits
+    65_538, // 2 in 16 bits
+    1 << 32,
+    (1 << 32) + 3, // 3 in 32 bits
+    1 << 63,
+    u64::MAX,
+];
+
+/// How many samples a report takes of a fan.
+const MOST_SAMPLES: usize = 65_535;
+
+/// All poles and all rooms with a few logs; any with the logs of the runs, with stops, and with samples at random; and fans
+/// that have too many samples.
+fn all_speeds_cases(script: &mut Script, of_runs: &[Vec<u8>]) {
+    for poles in POLES {
+        for log in [vec![], unpowered(), measured(), every_configuration(), bytes("9D")] {
+            speeds_cases(script, poles, 26, &log);
+        }
+    }
+    for room in 0..=27 {
+        speeds_cases(script, 3, room, &measured());
+    }
+    let chance = Chance::new(7_864_320);
+    let mut logs = of_runs.to_vec();
+    logs.extend(stops(&measured(), &measured()).into_iter().map(|(_, log)| log));
+    logs.extend((0..200).map(|_| any_measured(&chance)));
+    for log in logs {
+        speeds_cases(script, 1 + chance.below::<u64>(4), 20 + chance.below::<usize>(8), &log);
+    }
+    for log in full_logs() {
+        speeds_cases(script, 1, 25, &log);
+    }
+}
+
+/// One case, or more where the log or the room is none.
+fn speeds_cases(script: &mut Script, poles: u64, room: usize, log: &[u8]) {
+    let answer = speeds_answer(poles, room, log);
+    for size in rooms(room) {
+        for text in slices(log) {
+            script.add_text(&format!("speeds {poles} {size} {text}"), &answer);
+        }
+    }
+}
+
+/// Entries past the figures stay as they were.
+fn speeds_answer(poles: u64, room: usize, log: &[u8]) -> String {
+    let report = report(log, poles);
+    let entries = report.figures.into_iter().chain(repeat(u64::from_ne_bytes([FILL; 8])));
+    let words: Vec<String> = entries.take(room).map(|entry| entry.to_string()).collect();
+    let entries = if room == 0 { ".".into() } else { words.join(" ") };
+    format!("{} {} {} {entries}", report.number, report.place, report.records)
+}
+
+/// Every fan in a way of its own: with its Configuration 1 written in a block, or with the loop, which the watch turns off,
+/// or behind a lock, which does not hold it; with zero counts alone; over several power-ons. 6 and 7 are among them.
+fn measured() -> Vec<u8> {
+    [
+        sample(1, 1),
+        send(&[at(1, CONFIGURATION_1), 0x78]),
+        power_on(),
+        sample(1, 1),
+        sample(1, 0),
+        sample(1, 8191),
+        send(&[at(1, SETTING), 0x80, 1, 0x10, 0x28]),
+        sample(1, 3000),
+        send_to(HOME + 1, &[at(1, CONFIGURATION_1), 0x78]),
+        sample(1, 3001),
+        send(&[at(2, CONFIGURATION_1), 0xF8]),
+        send(&[CONFIGURATION, 0x60]),
+        ticks(320),
+        sample(2, 2),
+        send(&[LOCK, 1]),
+        send(&[at(3, CONFIGURATION_1), 0x40]),
+        sample(3, 8190),
+        clock(32),
+        sample(3, 7),
+        sample(4, 0).repeat(2),
+        sample(5, 7000),
+        send(&[at(5, CONFIGURATION_1), 0x00]),
+        sample(5, 7000),
+        power_on_at(HOME + 1),
+        sample(5, 7000),
+        power_on(),
+        sample(5, 0),
+    ]
+    .concat()
+}
+
+/// Every byte of Configuration 1 with a sample, fan by fan.
+fn every_configuration() -> Vec<u8> {
+    let mut log = power_on();
+    for byte in 0..=255 {
+        let fan = FANS[usize::from(byte) % FANS.len()];
+        log.extend(send(&[at(fan, CONFIGURATION_1), byte]));
+        log.extend(sample(fan, 1000 + 7 * u16::from(byte)));
+    }
+    log
+}
+
+/// Samples, and what changes Configuration 1; at times some before power-on.
+fn any_measured(chance: &Chance) -> Vec<u8> {
+    let mut log = any_measures(chance, chance.among(&[0, 0, 1, 3]));
+    log.extend(power_on());
+    log.extend(any_measures(chance, chance.below(60)));
+    log
+}
+
+fn any_measures(chance: &Chance, count: usize) -> Vec<u8> {
+    (0..count).flat_map(|_| any_measure(chance)).collect()
+}
+
+fn any_measure(chance: &Chance) -> Vec<u8> {
+    let fan = chance.among(&FANS);
+    match chance.below(20) {
+        0u8..10 => sample(fan, chance.among(&[0, 1, 2, 3, 31, 32, 8191, chance.below(8192)])),
+        10..14 => send(&[at(fan, CONFIGURATION_1), chance.below(256)]),
+        14..17 => send_to(chance.among(&[HOME, HOME, HOME + 1]), &any_sent(chance)),
+        17 => ticks(chance.below(400)),
+        18 => clock(32),
+        _ => power_on_at(chance.among(&[HOME, HOME + 1])),
+    }
+}
+
+/// As many samples as a report takes, and one more: of zero counts alone, of both sorts, of all fans at once; and where those
+/// before power-on are refused, so that there are not too many.
+fn full_logs() -> Vec<Vec<u8>> {
+    let zeros = [power_on(), sample(3, 0).repeat(MOST_SAMPLES), sample(3, 9)].concat();
+    let both = [sample(5, 0), sample(5, 8191), sample(5, 1)].concat();
+    let both = [power_on(), both.repeat(MOST_SAMPLES / 3), sample(5, 0)].concat();
+    let all: Vec<u8> = FANS.into_iter().flat_map(|fan| sample(fan, 5)).collect();
+    let all = [power_on(), all.repeat(MOST_SAMPLES), sample(4, 5)].concat();
+    let early = [sample(2, 1).repeat(MOST_SAMPLES + 1), power_on(), sample(2, 1)].concat();
+    [vec![zeros, both, all, early], fastest_logs()].concat()
+}
+
+/// The greatest total that there is, and behind it no sample, one, one of another fan and one after a power-on, and one that
+/// cannot be read.
+fn fastest_logs() -> Vec<Vec<u8>> {
+    let samples = sample(1, 1).repeat(MOST_SAMPLES);
+    let fastest = [power_on(), send(&[at(1, CONFIGURATION_1), 0x78]), samples].concat();
+    let behind = [
+        vec![],
+        sample(1, 1),
+        [sample(2, 1), power_on(), sample(1, 0)].concat(),
+        bytes("9C46 03 03 01 00 20"),
+    ];
+    behind.map(|behind| [&fastest[..], &behind].concat()).to_vec()
+}
+
+/// Every byte of Configuration 1 with counts in range and past it, and every high byte.
+fn rpm_cases(script: &mut Script) {
+    for poles in POLES {
+        for configuration1 in 0..=255 {
+            for count in [0, 1, 2, 3, 7, 1000, 3000, 8191, 8192, 32_768, 65_535] {
+                let answer = rpm(poles, configuration1, count).to_string();
+                script.add_text(&format!("rpm {poles} {configuration1} {count}"), &answer);
+            }
+        }
+    }
+    for byte in 0..=255 {
+        script.add_text(&format!("rpm_by_high_byte {byte}"), &rpm_by_high_byte(byte).to_string());
+    }
 }
 
 // ---- reads ----
