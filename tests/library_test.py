@@ -83,7 +83,7 @@ def check_cases(build_name, program, cases):
 
 # ---- the example ----
 
-EXAMPLE = bytes.fromhex("9C 46 01 01 2C 9C 46 05 03 58 30 80 9C 46 05 02 59 01")
+EXAMPLE = bytes.fromhex("9C 46 01 01 2C 9C 46 05 03 58 30 80 9C 46 05 02 59 01 9C 46 03 03 01 00 08 9C 46 03 03 01 DC 05")
 DAMAGED = bytes.fromhex("9C 46 02 02 01 00 9C 46 01 01 2C 9C 46 05 04 58 30 80 02 9C 46 05 02 58 30 9C 46 05 02 59 04"
                         "9C 46 03 03 05 FF 1F 9C 46 04 02 02 FF 9C 46 05 02 5B 02 9C 46 05 01 58 9C 47")
 DAMAGED_OUTPUT = """\
@@ -102,21 +102,30 @@ place 55
 records walked 9
 reply bytes 4: FF 02 2B 28
 faulty byte 56
+fan 5: samples 1, RPM lowest 960, highest 960, total 960, zero counts 0
 """
 EMPTY_OUTPUT = "0: end of the log\nnumber 0: taken\nplace 0\nrecords walked 0\nreply bytes 0:\n"
+SAMPLES = 65_536  # one more than a report takes
+CROWDED = bytes.fromhex("9C 46 01 01 2C" + "9C 46 03 03 02 00 00" * SAMPLES)
+CROWDED_OUTPUT = "".join(["0: power-on, address 2C\n",
+                          *(f"{5 + 7 * k}: tach sample of fan 2, count 0\n" for k in range(SAMPLES)),
+                          "458757: end of the log\nnumber 0: taken\nplace 458757\nrecords walked 65537\nreply bytes 0:\n",
+                          "speeds end at place 458750: too many samples of a fan\n",
+                          "fan 2: samples 0, RPM lowest 0, highest 0, total 0, zero counts 65535\n"])
 
 
 def check_example(name, program, folder):
-    """The built-in log, three files, and a file that is not there."""
+    """The built-in log, four files, and a file that is not there."""
     expected = (HOST / "example.expected").read_text()
-    files = [(None, expected, 0), (EXAMPLE, expected, 0), (DAMAGED, DAMAGED_OUTPUT, 1), (b"", EMPTY_OUTPUT, 0)]
+    files = [(None, expected, 0), (EXAMPLE, expected, 0), (DAMAGED, DAMAGED_OUTPUT, 1), (b"", EMPTY_OUTPUT, 0),
+             (CROWDED, CROWDED_OUTPUT, 0)]
     for log, output, status in files:
         file = folder / "log"
         file.write_bytes(log or b"")
         done = subprocess.run([program] if log is None else [program, file], capture_output=True, text=True,
                               timeout=TIMEOUT)
         if (done.stdout, done.stderr, done.returncode) != (output, "", status):
-            fail(f"{name} build of example.c", f"status {done.returncode}, it writes\n{done.stdout}{done.stderr}")
+            fail(f"{name} build of example.c", f"status {done.returncode}, it ends with\n{done.stdout[-1000:]}{done.stderr}")
     done = subprocess.run([program, folder / "none"], capture_output=True, text=True, timeout=TIMEOUT)
     if done.stdout or not done.stderr or done.returncode != 1:
         fail(f"{name} build of example.c, no file", f"status {done.returncode}, it writes\n{done.stdout}{done.stderr}")

@@ -1,4 +1,5 @@
-/* Shows how to use the library: lists the records of a log, then runs the chip over it and prints what the run gave.
+/* Shows how to use the library: lists the records of a log, runs the chip over it and prints what the run gave, and the speeds of
+ * the fans that have samples.
  *
  *   example [FILE]
  *
@@ -15,7 +16,11 @@ static const uint8_t EXAMPLE[] = {
     0x9C, 0x46, 0x01, 0x01, 0x2C,             /* power-on, at the bus address 2Ch */
     0x9C, 0x46, 0x05, 0x03, 0x58, 0x30, 0x80, /* write 80h to register 30h, the Setting of fan 1 */
     0x9C, 0x46, 0x05, 0x02, 0x59, 0x01,       /* read one byte: the fan spins up, its drive is FFh */
+    0x9C, 0x46, 0x03, 0x03, 0x01, 0x00, 0x08, /* a tach sample of fan 1, with the count 2048 */
+    0x9C, 0x46, 0x03, 0x03, 0x01, 0xDC, 0x05, /* another one, with the count 1500 */
 };
+
+enum { POLES = 2 }; /* of all fans */
 
 static void print_bytes(const uint8_t *bytes, uint64_t length)
 {
@@ -99,6 +104,23 @@ static bool run_chip(const uint8_t *log, size_t length)
     return number == COBBLEHARD_TAKEN;
 }
 
+/* Of the whole log, or of what stands before a stop. */
+static void print_speeds(const uint8_t *log, size_t length)
+{
+    uint64_t figures[COBBLEHARD_FIGURES], place, records;
+    uint8_t number = emc2305_speeds(log, length, POLES, figures, COBBLEHARD_FIGURES, &place, &records);
+
+    if (number == COBBLEHARD_TOO_MANY_SAMPLES) /* whatever else stops it stopped the run too */
+        printf("speeds end at place %" PRIu64 ": %s\n", place, cobblehard_words(number));
+    for (int fan = 1; fan <= 5; fan++) {
+        const uint64_t *of = figures + 5 * (fan - 1);
+
+        if (of[0] > 0 || of[4] > 0)
+            printf("fan %d: samples %" PRIu64 ", RPM lowest %" PRIu64 ", highest %" PRIu64 ", total %" PRIu64
+                   ", zero counts %" PRIu64 "\n", fan, of[0], of[1], of[2], of[3], of[4]);
+    }
+}
+
 /* The whole file, which the caller frees, or NULL. */
 static uint8_t *read_file(const char *name, size_t *length)
 {
@@ -139,6 +161,7 @@ int main(int count, char **arguments)
     }
     list_records(log, length);
     ended = run_chip(log, length);
+    print_speeds(log, length);
     free(bytes);
     return ended ? EXIT_SUCCESS : EXIT_FAILURE;
 }
