@@ -11,7 +11,7 @@ use crate::script::{bytes, hex_or, Script};
 use model::chip::{CONFIGURATION_1, SETTING};
 use model::log::{read, write, Event, ADDRESS, BYTES, COUNT, FAN, UNKNOWN_KIND};
 use model::replay::run;
-use model::speeds::{report, rpm, rpm_by_high_byte};
+use model::speeds::{rpm, rpm_by_high_byte, speeds as report};
 use std::collections::BTreeSet;
 use std::iter::repeat;
 
