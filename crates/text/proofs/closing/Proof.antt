@@ -115,7 +115,9 @@ stopped : (c : tie.After-struct-known)
     (before c .line .result .len + c .before .before .before .worded-row2 .result .len) (first (before c) ++ second (before c))
 stopped c =
     let l = before c in
-    let w = as-text _ _ (lentFrom (l .line .result .len) (l .line .last .1 .1 .1 .0)) _ _ (last-pieces (entered l .args .place) (search needs) stopWord) (c .before .before .before .worded-row2 .ensures) in
+    let w =
+    as-text _ _ (lentFrom (l .line .result .len) (l .line .last .1 .1 .1 .0)) _ _ (last-pieces (entered l .args .place) (search needs) stopWord)
+    (c .before .before .before .worded-row2 .ensures) in
     taken _ _ _ _ (lined l) (first-within l) (second l) _ _ w
     (says-fits _ _ _ _ (lined l) (first-within l) (second l) _ _ w ∙ le-leb _ _ (rw (length-append (first l) (second l)) at (both-fit l)))
 

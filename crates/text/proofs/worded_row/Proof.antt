@@ -39,7 +39,8 @@ returns : tie.Need-returns
 returns c =
     let b5 = c .before .before .before .before .before in
     nothing (text b5) (b5 .args .out .now)
-    (⊎-elim (λ w. omega (arith, counts b5)) (λ w. let e = sym (w .1 .ensures) ∙ not-true (w .1 .result) (w .2 .taken) in omega (arith, counts b5, leb-false)) (c .if1 .came))
+    (⊎-elim (λ w. omega (arith, counts b5))
+    (λ w. let e = sym (w .1 .ensures) ∙ not-true (w .1 .result) (w .2 .taken) in omega (arith, counts b5, leb-false)) (c .if1 .came))
 
 copy-requires : tie.Need-copy-requires
 copy-requires c κs = search needs
