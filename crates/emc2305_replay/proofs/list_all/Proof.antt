@@ -1,25 +1,27 @@
 -- `emc2305_replay::list_all` is safe and ends: what is held lies within the window, and each turn counts one.
 use mathlib.Core.Path.{_≡_}
-use Prim.Native.Nat.{_+_, _≤_}
-use native.Mathlib.Omega.{arith}
+use Prim.Native.Nat.{_≤_}
 use lib.ListN.{length}
 use borrow.Author.Needs.{needs}
-use Rattle.emc2305_replay.proofs.Calls.{used-within, laid-within, laid-count, used-up}
+use Rattle.emc2305_replay.proofs.Calls.{laid-within, laid-count}
 use Rattle.emc2305_replay.proofs.list_all.Statement.{statement}
 use Rattle.emc2305_replay.proofs.list_all.Tie as tie
 
 abbrev Inv-loop : tie.InvT-loop
-Inv-loop window₀ out₀ chip₀ place₀ hold₀ turns₀ window out chip place hold turns =
+Inv-loop input what window₀ out₀ chip₀ place₀ hold₀ turns₀ t14 window out chip place hold turns =
     (hold .from ≤ hold .held) × (hold .held ≤ length window) × (length window ≡ length window₀) × (length out ≡ length out₀)
 
 abbrev μ-loop : tie.MeasureT-loop
-μ-loop window₀ out₀ chip₀ place₀ hold₀ turns₀ window out chip place hold turns = turns
+μ-loop input what window₀ out₀ chip₀ place₀ hold₀ turns₀ t14 window out chip place hold turns = turns
 
 unpowered-requires : tie.Need-unpowered-requires Inv-loop μ-loop
 unpowered-requires c κs = search needs
 
+begun-requires : tie.Need-begun-requires Inv-loop μ-loop
+begun-requires c κs = search needs
+
 loop-holds : tie.Need-loop-holds Inv-loop μ-loop
-loop-holds c = search needs
+loop-holds c = rw (c .begun .ensures) (search needs)
 
 sub-list : tie.Need-sub-list Inv-loop μ-loop
 sub-list c = search needs
@@ -33,45 +35,23 @@ part-list-end c = search needs
 list-requires : tie.Need-list-requires Inv-loop μ-loop
 list-requires c κs = search needs
 
-add-served : tie.Need-add-served Inv-loop μ-loop
-add-served c =
-    let b14 = c .before .before .before .before .before .before .before .before .before .before .before .before .before .before in
-    let b10 = c .before .before .before .before .before .before .before .before .before .before in
-    let b4 = c .before .before .before .before in
-    let h : b10 .loop .hold .from + b4 .list .result .used ≤ b10 .loop .hold .held = used-up _ _ _ (b10 .loop .window) (b10 .loop .inv .0)
-    (b10 .loop .inv .1) (used-within _ _ _ _ (b10 .loop .out) _ _ (b4 .list .ensures)) in
-    let i = b10 .loop .inv in
-    omega (arith, h, i .1, i .2, b14 .good .0 .0)
+slice-reshare-prefix-write-out : tie.Need-slice-reshare-prefix-write-out Inv-loop μ-loop
+slice-reshare-prefix-write-out c =
+    let called = c .before .before .before in
+    let b9 = called .before .before .before .before .before .before in
+    laid-within _ _ _ _ (b9 .loop .out) _ _ (called .list .ensures)
 
-slice-reshare-prefix-served : tie.Need-slice-reshare-prefix-served Inv-loop μ-loop
-slice-reshare-prefix-served c =
-    let b10 = c .before .before .before .before .before .before .before .before .before .before in
-    let b4 = c .before .before .before .before in
-    laid-within _ _ _ _ (b10 .loop .out) _ _ (b4 .list .ensures)
+slice-aggregate-write-out : tie.Need-slice-aggregate-write-out Inv-loop μ-loop
+slice-aggregate-write-out c =
+    let called = c .before .before .before .before in
+    let b10 = called .before .before .before .before .before .before in
+    laid-count _ _ _ _ (b10 .loop .out) _ _ (called .list .ensures)
 
-slice-aggregate-served : tie.Need-slice-aggregate-served Inv-loop μ-loop
-slice-aggregate-served c =
-    let b11 = c .before .before .before .before .before .before .before .before .before .before .before in
-    let b5 = c .before .before .before .before .before in
-    laid-count _ _ _ _ (b11 .loop .out) _ _ (b5 .list .ensures)
+slice-aggregate-write-out-2 : tie.Need-slice-aggregate-write-out-2 Inv-loop μ-loop
+slice-aggregate-write-out-2 c = search needs
 
-served-requires : tie.Need-served-requires Inv-loop μ-loop
-served-requires c κs =
-    let b12 = c .before .before .before .before .before .before .before .before .before .before .before .before in
-    let b6 = c .before .before .before .before .before .before in (
-      used-up _ _ _ (b12 .loop .window) (b12 .loop .inv .0) (b12 .loop .inv .1)
-          (used-within _ _ _ _ (b12 .loop .out) _ _ (b6 .list .ensures)),
-      b12 .loop .inv .1,
-    )
-
-sub-turns : tie.Need-sub-turns Inv-loop μ-loop
-sub-turns c = search needs
-
-loop-less : tie.Need-loop-less Inv-loop μ-loop
-loop-less c = search needs
-
-loop-again : tie.Need-loop-again Inv-loop μ-loop
-loop-again c = (c .before .before .served .ensures .0, c .before .before .served .ensures .1, search needs, search needs)
+write-out-requires : tie.Need-write-out-requires Inv-loop μ-loop
+write-out-requires c κs = search needs
 
 same-length : tie.Need-same-length Inv-loop μ-loop
 same-length c = search needs
@@ -82,6 +62,19 @@ same-length-2 c = search needs
 returns : tie.Need-returns Inv-loop μ-loop
 returns c = search needs
 
+served-requires : tie.Need-served-requires Inv-loop μ-loop
+served-requires c κs = search needs
+
+sub-turns : tie.Need-sub-turns Inv-loop μ-loop
+sub-turns c = search needs
+
+loop-less : tie.Need-loop-less Inv-loop μ-loop
+loop-less c = search needs
+
+loop-again : tie.Need-loop-again Inv-loop μ-loop
+loop-again c =
+    let w = c .before .before .served .ensures .within in (w .0, w .1, search needs, search needs)
+
 same-length-3 : tie.Need-same-length-3 Inv-loop μ-loop
 same-length-3 c = search needs
 
@@ -91,6 +84,15 @@ same-length-4 c = search needs
 returns-2 : tie.Need-returns-2 Inv-loop μ-loop
 returns-2 c = search needs
 
+same-length-5 : tie.Need-same-length-5 Inv-loop μ-loop
+same-length-5 c = search needs
+
+same-length-6 : tie.Need-same-length-6 Inv-loop μ-loop
+same-length-6 c = search needs
+
+returns-3 : tie.Need-returns-3 Inv-loop μ-loop
+returns-3 c = search needs
+
 pub list-all-spec : {M : Type 1} → statement M
 list-all-spec =
     tie.close
@@ -98,21 +100,26 @@ list-all-spec =
     Inv-loop
     μ-loop
     unpowered-requires
+    begun-requires
     loop-holds
     sub-list
     part-list-start
     part-list-end
     list-requires
-    add-served
-    slice-reshare-prefix-served
-    slice-aggregate-served
+    slice-reshare-prefix-write-out
+    slice-aggregate-write-out
+    slice-aggregate-write-out-2
+    write-out-requires
+    same-length
+    same-length-2
+    returns
     served-requires
     sub-turns
     loop-less
     loop-again
-    same-length
-    same-length-2
-    returns
     same-length-3
     same-length-4
-    returns-2)
+    returns-2
+    same-length-5
+    same-length-6
+    returns-3)
