@@ -1,3 +1,2 @@
 pub mod Fits
-pub mod Adding
-pub mod Steps
+pub mod Sampled

@@ -1,2 +1,3 @@
 pub mod Speeds
+pub mod Walk
 pub mod Promises
