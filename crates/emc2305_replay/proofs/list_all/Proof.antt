@@ -1,9 +1,11 @@
 -- `emc2305_replay::list_all` is safe and ends: what is held lies within the window, and each turn counts one.
-use mathlib.Core.Path.{_≡_}
+use mathlib.Core.Path.{_≡_, sym}
 use Prim.Native.Nat.{_≤_}
 use lib.ListN.{length}
+use lib.Seq.{length-take-le}
 use borrow.Author.Needs.{needs}
-use Rattle.emc2305_replay.proofs.Calls.{laid-within, laid-count}
+use Rattle.windows.proofs.Buffers.{laid-within}
+use Rattle.emc2305_listing.proofs.Promises.{steady}
 use Rattle.emc2305_replay.proofs.list_all.Statement.{statement}
 use Rattle.emc2305_replay.proofs.list_all.Tie as tie
 
@@ -36,16 +38,10 @@ list-requires : tie.Need-list-requires Inv-loop μ-loop
 list-requires c κs = search needs
 
 slice-reshare-prefix-write-out : tie.Need-slice-reshare-prefix-write-out Inv-loop μ-loop
-slice-reshare-prefix-write-out c =
-    let called = c .before .before .before in
-    let b9 = called .before .before .before .before .before .before in
-    laid-within _ _ _ _ (b9 .loop .out) _ _ (called .list .ensures)
+slice-reshare-prefix-write-out c = laid-within steady (c .before .before .before .list .ensures)
 
 slice-aggregate-write-out : tie.Need-slice-aggregate-write-out Inv-loop μ-loop
-slice-aggregate-write-out c =
-    let called = c .before .before .before .before in
-    let b10 = called .before .before .before .before .before .before in
-    laid-count _ _ _ _ (b10 .loop .out) _ _ (called .list .ensures)
+slice-aggregate-write-out c = sym (length-take-le _ _ (slice-reshare-prefix-write-out (c .before)))
 
 slice-aggregate-write-out-2 : tie.Need-slice-aggregate-write-out-2 Inv-loop μ-loop
 slice-aggregate-write-out-2 c = search needs
