@@ -3,11 +3,14 @@
 
     python3 tests/speeds_test.py target/bin/emc2305_speeds
 
-The logs are those of host/expected/src/speeds.rs. Also tried: input that comes in pieces, input that cannot be read,
-output that nobody takes, and arguments that are no number of poles.
+The logs are those of host/expected/src/speeds.rs. Also tried: input that comes in pieces, input that stays open where
+the report has ended, input that cannot be read, output that nobody takes, and arguments that are no number of poles.
 """
+import contextlib
 import os
+import subprocess
 import sys
+import tempfile
 
 import host
 import programs
@@ -30,6 +33,25 @@ def expected_reports():
     for case, report in host.expected("speeds"):
         name, argument, words = case.split("\t")
         yield name, argument, unpacked(words), report.replace("; ", "\n").encode() + b"\n"
+
+
+def ends_before_input(report):
+    """The report stops, and more input could not change it."""
+    word, *numbers = report.splitlines()[-1].split()
+    return word == b"stop" and numbers[-1] != b"1"
+
+
+def input_open(command, name, log, report):
+    """The program writes the report and ends while its input is open behind the log."""
+    name = f"{name}, its input open"
+    with tempfile.TemporaryFile() as output:
+        process = subprocess.Popen(command, stdin=subprocess.PIPE, stdout=output, stderr=subprocess.DEVNULL, bufsize=0)
+        with contextlib.suppress(BrokenPipeError):
+            process.stdin.write(log)
+        programs.finished(name, process)
+        process.stdin.close()
+        output.seek(0)
+        programs.compare(name, log, report, output.read())
 
 
 def wrong_arguments(program, report):
@@ -56,6 +78,8 @@ def main():
     cases = {}
     for name, argument, log, report in expected_reports():
         programs.hand_over([program, argument], name, log, report)
+        if ends_before_input(report):
+            input_open([program, argument], name, log, report)
         cases[name] = log, report
     programs.none_missing(cases.keys())
     few, long = cases[FEW][0], cases[LONG][0]
