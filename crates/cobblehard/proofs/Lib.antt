@@ -1,4 +1,3 @@
 pub mod Asked
 pub mod Promises
 pub mod Fault
-pub mod Figures

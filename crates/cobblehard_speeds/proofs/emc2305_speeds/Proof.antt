@@ -1,10 +1,10 @@
--- `cobblehard::speeds::emc2305_speeds` meets its contract.
+-- `cobblehard_speeds::emc2305_speeds` meets its contract.
 use mathlib.Core.Path.{ap, _∙_}
 use borrow.Author.Needs.{needs}
 use Rattle.reports.specs.declared.Report.{Report}
-use Rattle.cobblehard.specs.Face.{figuresLaid}
-use Rattle.cobblehard.proofs.speeds.emc2305_speeds.Statement.{statement}
-use Rattle.cobblehard.proofs.speeds.emc2305_speeds.Tie as tie
+use Rattle.cobblehard_speeds.specs.Face.{figuresLaid}
+use Rattle.cobblehard_speeds.proofs.emc2305_speeds.Statement.{statement}
+use Rattle.cobblehard_speeds.proofs.emc2305_speeds.Tie as tie
 
 speeds-requires : tie.Need-speeds-requires
 speeds-requires c κs = search needs

@@ -14,7 +14,7 @@ use Rattle.laws.proofs.Laid.{Laid, byte-on, same-length}
 use Rattle.laws.proofs.Tests.{by-test}
 use Rattle.reports.specs.declared.Figures.{Figures}
 use Rattle.reports.specs.Lines.{noFigures, figuresRow, figuresRows, allFigures}
-use Rattle.cobblehard.specs.Face.{figuresLaid}
+use Rattle.cobblehard_speeds.specs.Face.{figuresLaid}
 
 -- an entry of the second of two lists
 got-behind : (xs ys : List ℕ) (i : ℕ) → getD (xs ++ ys) (length xs + i) 0 ≡ getD ys i 0

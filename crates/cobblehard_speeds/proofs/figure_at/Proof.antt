@@ -1,9 +1,9 @@
--- `cobblehard::speeds::figure_at` meets its contract.
+-- `cobblehard_speeds::figure_at` meets its contract.
 use mathlib.Core.Path.{sym}
 use borrow.Author.Needs.{needs}
-use Rattle.cobblehard.proofs.Figures.{got-figure}
-use Rattle.cobblehard.proofs.speeds.figure_at.Statement.{statement}
-use Rattle.cobblehard.proofs.speeds.figure_at.Tie as tie
+use Rattle.cobblehard_speeds.proofs.Figures.{got-figure}
+use Rattle.cobblehard_speeds.proofs.figure_at.Statement.{statement}
+use Rattle.cobblehard_speeds.proofs.figure_at.Tie as tie
 
 mul-row-of : tie.Need-mul-row-of
 mul-row-of c = search needs

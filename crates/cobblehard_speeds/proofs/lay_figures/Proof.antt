@@ -1,12 +1,12 @@
--- `cobblehard::speeds::lay_figures` meets its contract.
+-- `cobblehard_speeds::lay_figures` meets its contract.
 use mathlib.Core.Path.{refl}
 use Prim.Native.Nat.{_-_}
 use native.Mathlib.Omega.{arith}
 use borrow.Author.Needs.{needs}
 use borrow.Author.Tests.{ltb-true, ltb-false}
-use Rattle.cobblehard.proofs.Figures.{Filling, keeps, figure-on, filled, filled-up}
-use Rattle.cobblehard.proofs.speeds.lay_figures.Statement.{statement}
-use Rattle.cobblehard.proofs.speeds.lay_figures.Tie as tie
+use Rattle.cobblehard_speeds.proofs.Figures.{Filling, keeps, figure-on, filled, filled-up}
+use Rattle.cobblehard_speeds.proofs.lay_figures.Statement.{statement}
+use Rattle.cobblehard_speeds.proofs.lay_figures.Tie as tie
 
 abbrev Inv-loop : tie.InvT-loop
 Inv-loop fans out₀ i₀ out i = Filling fans out₀ out i

@@ -1,0 +1,1 @@
+-- What is promised to a C host of the report.
