@@ -1,13 +1,14 @@
 /* Cobblehard: a proved model of the EMC2305 fan controller, and of the event logs that drive it.
  *
- * Link with libcobblehard.a, which `rt staticlib cobblehard` makes in target/staticlib/. It is for x86-64, where size_t and places have 64 bits.
+ * Link with libcobblehard.a, which `rt staticlib cobblehard` makes in target/staticlib/; a program that calls emc2305_speeds links with
+ * libcobblehard_speeds.a too, which `rt staticlib cobblehard_speeds` makes. They are for x86-64, where size_t and places have 64 bits.
  *
  * A slice is a pointer and a length; where the length is 0 the pointer may be anything, NULL too. A pointer to a number is never NULL.
  * What is lent to one call does not overlap, numbers included; an empty slice overlaps nothing. Of a lent buffer only the bytes that are
  * said to be laid change. No function keeps a pointer, allocates, or has a state of its own: calls may run beside each other.
  *
  * Names begin with what they are of, the log (eventlog_) or the device (emc2305_); constants and the rest with COBBLEHARD_ or cobblehard_.
- * A program that has such a name itself can change it in its copy of the library, by objcopy --redefine-sym OLD=NEW libcobblehard.a; it
+ * A program that has such a name itself can change it in its copy of the library, by objcopy --redefine-sym OLD=NEW on the archive; it
  * includes this file between #define OLD NEW and #undef OLD.
  */
 #ifndef COBBLEHARD_H

@@ -1,7 +1,7 @@
 #!/usr/bin/env python3
-"""Builds the C programs of host/c with the library, and compares its answers with those of the independent model.
+"""Builds the C programs of host/c with the libraries, and compares their answers with those of the independent model.
 
-    python3 tests/library_test.py target/staticlib/libcobblehard.a
+    python3 tests/library_test.py target/staticlib/libcobblehard.a target/staticlib/libcobblehard_speeds.a
 
 The cases are those of host/expected/src/library.rs, and the header's words. Each program is built twice, the second time with
 gcc's address and undefined behaviour sanitizers. The header is compiled by itself too, as C and, where there is g++, as C++.
@@ -27,9 +27,9 @@ def fail(name, text):
     sys.exit(f"library_test: {name}: {text}")
 
 
-def build(library, folder, name, flags):
+def build(libraries, folder, name, flags):
     program = folder / name
-    command = ["gcc", *STRICT, *flags, HOST / f"{name}.c", library, "-o", program]
+    command = ["gcc", *STRICT, *flags, HOST / f"{name}.c", *libraries, "-o", program]
     done = subprocess.run(command, capture_output=True, text=True)
     if done.returncode:
         fail(f"building {name}.c", done.stderr)
@@ -132,9 +132,9 @@ def check_example(name, program, folder):
 
 
 def main():
-    if len(sys.argv) != 2:
+    if len(sys.argv) != 3:
         sys.exit(__doc__)
-    library = pathlib.Path(sys.argv[1]).resolve()
+    libraries = [pathlib.Path(name).resolve() for name in sys.argv[1:]]
     cases = host.expected("library")
     counts = {word: sum(line.startswith(word + " ") for line, _ in cases) for word in CALLS}
     counted = ", ".join(f"{count} of {word}" for word, count in counts.items())
@@ -145,8 +145,8 @@ def main():
     for name, flags in BUILDS.items():
         with tempfile.TemporaryDirectory() as path:
             folder = pathlib.Path(path)
-            check_example(name, build(library, folder, "example", flags), folder)
-            check_cases(name, build(library, folder, "check", flags), cases + WORDS_CASES)
+            check_example(name, build(libraries, folder, "example", flags), folder)
+            check_cases(name, build(libraries, folder, "check", flags), cases + WORDS_CASES)
     print(f"library_test: {counted} as expected in {len(BUILDS)} builds; the words and the example too")
 
 

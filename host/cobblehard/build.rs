@@ -1,6 +1,8 @@
-//! Links libcobblehard.a, from COBBLEHARD_LIB or from where `rt staticlib cobblehard` lays it.
+//! Links libcobblehard.a and libcobblehard_speeds.a, from COBBLEHARD_LIB or from where `rt staticlib` lays them.
 use std::env;
 use std::path::{Path, PathBuf};
+
+const LIBRARIES: [&str; 2] = ["cobblehard", "cobblehard_speeds"];
 
 fn main() {
     println!("cargo:rerun-if-env-changed=COBBLEHARD_LIB");
@@ -9,15 +11,17 @@ fn main() {
         Some(folder) => PathBuf::from(folder),
         None => Path::new(&here).join("../../target/staticlib"),
     };
-    let library = folder.join("libcobblehard.a");
-    println!("cargo:rerun-if-changed={}", library.display());
-    if !library.is_file() {
-        panic!(
-            "{} is not there: make it with `rt staticlib cobblehard` in the root of the repository, \
-             or set COBBLEHARD_LIB to the folder that has it",
-            library.display()
-        );
-    }
     println!("cargo:rustc-link-search=native={}", folder.display());
-    println!("cargo:rustc-link-lib=static=cobblehard");
+    for name in LIBRARIES {
+        let library = folder.join(format!("lib{name}.a"));
+        println!("cargo:rerun-if-changed={}", library.display());
+        if !library.is_file() {
+            panic!(
+                "{} is not there: make it with `rt staticlib {name}` in the root of the repository, \
+                 or set COBBLEHARD_LIB to the folder that has it",
+                library.display()
+            );
+        }
+        println!("cargo:rustc-link-lib=static={name}");
+    }
 }
