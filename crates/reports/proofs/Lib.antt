@@ -6,3 +6,7 @@ pub mod Calls
 pub mod Loops
 pub mod Tellers
 pub mod Laying
+pub mod Bounds
+pub mod Limits
+pub mod Promises
+pub mod Longer
