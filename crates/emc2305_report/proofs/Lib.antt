@@ -1,2 +1,3 @@
 pub mod Fits
 pub mod Sampled
+pub mod Promises

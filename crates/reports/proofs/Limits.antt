@@ -59,15 +59,16 @@ module _ (test : List Found → Bool) where
       let whole = append-assoc front (found ∷ []) rest in
       rw (h (front ++ (found ∷ [])) rest whole) (longest-all (front ++ (found ∷ [])) rest (λ a b e. h a b (e ∙ whole)) ∙ whole)
 
--- no reading gives 14
-pub not-fourteen : (log : List ℕ) (place : ℕ) → numberRead (readAt log place) ≡ 14 → ⊥
-not-fourteen log place e =
-    by-reading log place (λ event next r. let z : _≡_ {A = ℕ} 0 14 = rw r at e in omega arith)
-    (λ r. let z : _≡_ {A = ℕ} 0 14 = rw r at e in omega arith)
+-- reading gives no other number than those of its faults
+pub never-read : (log : List ℕ) (place n : ℕ) → readingFault n ≡ false → (n ≡ 0 → ⊥) → numberRead (readAt log place) ≡ n → ⊥
+never-read log place n other some e =
+    by-reading log place (λ event next r. some (sym e ∙ rw r refl)) (λ r. some (sym e ∙ rw r refl))
     (λ number fault r.
-    let n : number ≡ 14 = rw r at e in
-    let f : readingFault number ≡ true = refused-fault log place number fault r in
-    true≢false (sym f ∙ rw n refl))
+    let same : number ≡ n = rw r at e in
+    true≢false (sym (refused-fault log place number fault r) ∙ ap readingFault same ∙ other))
+
+pub not-fourteen : (log : List ℕ) (place : ℕ) → numberRead (readAt log place) ≡ 14 → ⊥
+not-fourteen log place = never-read log place 14 refl (λ z. omega arith)
 
 module _ (g : Gauge) (log : List ℕ) where
   -- the samples of records are those of a front of them, and others
@@ -133,6 +134,13 @@ module _ (g : Gauge) (log : List ℕ) where
   records-is : reportOf g log .records ≡ length (reported g log)
   unfolding reportOf
   records-is = refl
+
+-- a report's number is 14 or one of reading's
+pub report-number : (g : Gauge) (log : List ℕ) (n : ℕ) → (n ≡ 14 → ⊥) → readingFault n ≡ false → (n ≡ 0 → ⊥) → reportOf g log .number ≡ n → ⊥
+unfolding reportOf
+report-number g log n other none some e =
+    by-test (ltb (length (reported g log)) (length (recordsOf log))) (λ y. other (sym (rw y at e)))
+    (λ f. never-read log (placeAfter 0 (reported g log)) n none some (rw f at e))
 
 pub limit-rule : (g : Gauge) → LimitRule g
 limit-rule g log =
