@@ -87,7 +87,7 @@ fans-apart poles log c other count fan place next rest = (
 )
 
 module _ (poles : ℕ) where
-  steady : Steady (report (gauge poles))
+  pub steady : Steady (report (gauge poles))
   steady = tellers.steady (gauge poles) lawful
 
   short : Short (report (gauge poles)) 677

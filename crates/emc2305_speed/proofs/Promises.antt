@@ -1,11 +1,11 @@
 -- The promises of the speed of one sample (specs/Promises.antt).
-use mathlib.Core.Path.{_≡_, sym, ap, _∙_}
+use mathlib.Core.Path.{_≡_, refl, sym, ap, _∙_}
 use Prim.Native.Nat.{ℕ, _+_, _*_, _/_, _≤_}
 use native.Mathlib.Omega.{arith}
 use native.Mathlib.Nat.{mul-le-mul, mul-comm, one-mul, le-div-iff-mul-le, div-div-eq-div-mul, mul-div-mul-left}
 use borrow.Author.Tests.{ne-eqb}
 use Rattle.emc2305_speed.specs.Speed.{rpm, rpmByHighByte}
-use Rattle.emc2305_speed.specs.Promises.{SpeedRange, Slower, Poles, HighBytes}
+use Rattle.emc2305_speed.specs.Promises.{Examples, SpeedRange, Slower, Poles, HighBytes}
 use Rattle.emc2305_speed.proofs.Factors.{clocks, clocks-least, rpm-most}
 
 -- a smaller divisor never gives a smaller quotient
@@ -14,6 +14,10 @@ smaller-divisor n d e h l =
     let at-d = le-div-iff-mul-le {k = d} {x = n / e} {y = n} h in
     let at-e = le-div-iff-mul-le {k = e} {x = n / e} {y = n} (omega arith) in
     at-d .1 (omega (arith, mul-le-mul {n₁ = n / e} {m₁ = d} {n₂ = n / e} {m₂ = e} (omega arith) l, at-e .0 (omega arith)))
+
+pub examples : Examples
+unfolding rpm
+examples = (refl, refl, refl, refl, refl, refl, refl, refl, refl, refl, refl, refl)
 
 pub speed-range : SpeedRange
 unfolding rpm

@@ -5,7 +5,7 @@ use lib.ListN.{length}
 use lib.Seq.{length-take-le}
 use borrow.Author.Needs.{needs}
 use Rattle.windows.proofs.Buffers.{laid-within}
-use Rattle.emc2305_speeds.proofs.Teller.{steady}
+use Rattle.emc2305_report.proofs.Promises.{steady}
 use Rattle.emc2305_speeds.proofs.report_all.Statement.{statement}
 use Rattle.emc2305_speeds.proofs.report_all.Tie as tie
 
