@@ -1,1 +1,0 @@
--- What is promised to a C host of the report.
