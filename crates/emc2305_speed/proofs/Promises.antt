@@ -5,7 +5,7 @@ use native.Mathlib.Omega.{arith}
 use native.Mathlib.Nat.{mul-le-mul, mul-comm, one-mul, le-div-iff-mul-le, div-div-eq-div-mul, mul-div-mul-left}
 use borrow.Author.Tests.{ne-eqb}
 use Rattle.emc2305_speed.specs.Speed.{rpm, rpmByHighByte}
-use Rattle.emc2305_speed.specs.Promises.{Examples, SpeedRange, Slower, Poles, HighBytes}
+use Rattle.emc2305_speed.specs.Promises.{SpeedExamples, SpeedRange, Slower, Poles, HighBytes}
 use Rattle.emc2305_speed.proofs.Factors.{clocks, clocks-least, rpm-most}
 
 -- a smaller divisor never gives a smaller quotient
@@ -15,9 +15,9 @@ smaller-divisor n d e h l =
     let at-e = le-div-iff-mul-le {k = e} {x = n / e} {y = n} (omega arith) in
     at-d .1 (omega (arith, mul-le-mul {n₁ = n / e} {m₁ = d} {n₂ = n / e} {m₂ = e} (omega arith) l, at-e .0 (omega arith)))
 
-pub examples : Examples
+pub speed-examples : SpeedExamples
 unfolding rpm
-examples = (refl, refl, refl, refl, refl, refl, refl, refl, refl, refl, refl, refl)
+speed-examples = (refl, refl, refl, refl, refl, refl, refl, refl, refl, refl, refl, refl)
 
 pub speed-range : SpeedRange
 unfolding rpm

@@ -5,8 +5,8 @@ use Rattle.emc2305_speed.specs.Speed.{rpm, rpmByHighByte}
 
 -- the formula worked out by hand: each of the edges at count 1, 3, 5, 7 and 9 of them, then m = 2, 4 and 8; the other bits of Configuration 1, which do nothing; and
 -- quotients that are rounded down: 7864.32, 748982.86, 3840.47 and 120.01
-abbrev pub Examples : Type 0
-Examples =
+abbrev pub SpeedExamples : Type 0
+SpeedExamples =
     (rpm 1 0x00 1 ≡ 3932160) × (rpm 1 0x08 1 ≡ 7864320) × (rpm 1 0x10 1 ≡ 11796480) × (rpm 1 0x18 1 ≡ 15728640)
     × (rpm 1 0x20 1 ≡ 7864320) × (rpm 1 0x40 1 ≡ 15728640) × (rpm 1 0x60 1 ≡ 31457280) × (rpm 1 0x87 1 ≡ 3932160)
     × (rpm 2 0x2B 1000 ≡ 7864) × (rpm 3 0x2B 7 ≡ 748982) × (rpm 4 0x7F 8191 ≡ 3840) × (rpm 4 0x00 8191 ≡ 120)
