@@ -1,6 +1,6 @@
 -- What is promised of the speed of one sample. docs/CLAIMS.md names the file of each proof.
 use mathlib.Core.Path.{_≡_}
-use Prim.Native.Nat.{ℕ, _+_, _*_, _/_, _≤_, _<_}
+use Prim.Native.Nat.{ℕ, _+_, _*_, _/_, _≤_}
 use Rattle.emc2305_speed.specs.Speed.{rpm, rpmByHighByte}
 
 -- the formula worked out by hand: each of the edges at count 1, 3, 5, 7 and 9 of them, then m = 2, 4 and 8; the other bits of Configuration 1, which do nothing; and

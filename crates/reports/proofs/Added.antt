@@ -1,15 +1,15 @@
 -- The figures of a fan's samples with one more are those with it added.
-use mathlib.Core.Path.{_≡_, refl, sym, ap, _∙_}
+use mathlib.Core.Path.{_≡_, refl, ap}
 use mathlib.Core.Bool.{true, false, cond}
-use mathlib.Core.List.{List, [], _∷_, _++_, append-nil}
-use Prim.Native.Nat.{ℕ, _+_, _*_, _%_, _^_, _≤_, _<_}
+use mathlib.Core.List.{List, [], _∷_, _++_}
+use Prim.Native.Nat.{ℕ, _+_, _*_, _^_, _≤_, _<_}
 use native.Mathlib.Omega.{arith}
 use native.Mathlib.Nat.{mod-eq-of-lt, add-zero}
 use lib.Dec.{leb, eqb}
 use lib.ListN.{length, length-append}
 use borrow.Author.Tests.{lt-leb}
 use Rattle.laws.proofs.Tests.{by-test}
-use Rattle.reports.specs.Figures.{Sample, least, greatest, sum, speeds, zeroCounts, figuresOf}
+use Rattle.reports.specs.Figures.{Sample, sum, speeds, zeroCounts, figuresOf}
 use Rattle.reports.specs.Report.{limit}
 use Rattle.reports.specs.Adding.{isFull, withSample}
 use Rattle.reports.proofs.Sums.{least-more, greatest-more, sum-more}

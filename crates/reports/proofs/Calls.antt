@@ -1,27 +1,25 @@
 -- A report tells nothing before its end: a call lays the text of where it comes to, or waits for more.
 use mathlib.Core.Path.{_≡_, refl, subst, _∙_}
-use mathlib.Core.Bool.{Bool, true, false, cond, not, _&&_}
-use mathlib.Core.List.{List, [], _∷_, _++_}
-use Prim.Native.Nat.{ℕ, _+_, _-_, _%_, _^_, _≤_}
+use mathlib.Core.Bool.{Bool, true, false, cond}
+use mathlib.Core.List.{List, []}
+use Prim.Native.Nat.{ℕ, _+_, _-_, _%_, _^_}
 use native.Mathlib.Omega.{arith}
 use native.Mathlib.Nat.{sub-zero}
 use lib.Dec.{leb}
 use lib.ListN.{length}
 use borrow.Author.Tests.{le-leb}
-use Rattle.laws.specs.Buffer.{laidOver}
 use Rattle.laws.proofs.Laid.{Fitted}
 use Rattle.laws.proofs.Tests.{by-test}
 use Rattle.eventlog.specs.declared.Event.{Event}
 use Rattle.eventlog.specs.declared.Reading.{Reading}
 use Rattle.eventlog.specs.declared.Reading.the-variants.{Record}
-use Rattle.eventlog.specs.Numbers.{numberRead}
 use Rattle.eventlog.specs.Reading.{readAt}
 use Rattle.records.specs.Records.{recordsOf}
 use Rattle.records.proofs.AllRecords.{record-then}
 use Rattle.records.proofs.Along.{over, along, recordsAt, none-at}
 use Rattle.windows.specs.declared.Wants.{Wants}
-use Rattle.windows.specs.declared.Wants.the-variants.{Input, Room, Nothing}
-use Rattle.windows.specs.Teller.{toldOver, toldFrom, told}
+use Rattle.windows.specs.declared.Wants.the-variants.{Input}
+use Rattle.windows.specs.Teller.{toldFrom, told}
 use Rattle.windows.specs.Window.{waits, wantsLast, Paused, closed, callOver, called, answered, outAfter, Called}
 use Rattle.windows.proofs.Tellings.{toldAt, told-none, told-record}
 use Rattle.reports.specs.Lines.{reportText}

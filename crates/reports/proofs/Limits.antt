@@ -1,13 +1,12 @@
 -- The limit of a report: how many records it takes, and when it ends with 14 (specs/Promises.antt).
 use mathlib.Core.Path.{_≡_, refl, sym, ap, _∙_}
-use mathlib.Core.Logic.{_↔_}
 use mathlib.Core.Bool.{Bool, true, false, true≢false}
 use mathlib.Core.List.{List, [], _∷_, _++_, append-nil, append-assoc}
-use Prim.Native.Nat.{ℕ, zero, suc, _+_, _-_, _≤_, _<_}
+use Prim.Native.Nat.{ℕ, _+_, _-_, _<_}
 use native.Mathlib.Omega.{arith}
 use lib.Dec.{leb, ltb, eqb}
-use lib.ListN.{length, getD, take, length-append}
-use lib.Seq.{take-append-seam, take-length}
+use lib.ListN.{length, take, length-append}
+use lib.Seq.{take-append-seam}
 use borrow.Author.Tests.{leb-true, le-leb, ltb-true, lt-ltb, eqb-true, eqb-false}
 use Rattle.laws.proofs.Tests.{by-test}
 use Rattle.eventlog.specs.Numbers.{readingFault, numberRead}

@@ -6,7 +6,7 @@ use Prim.Native.Nat.{ℕ, _%_, _^_}
 use native.Mathlib.Omega.{arith}
 use Rattle.eventlog.specs.declared.Event.{Event}
 use Rattle.eventlog.specs.declared.Event.the-variants.{Ticks}
-use Rattle.eventlog.specs.Kinds.{onSample, isTransfer}
+use Rattle.eventlog.specs.Kinds.{onSample}
 use Rattle.eventlog.specs.Layout.{Said, transfer, itself, said}
 use Rattle.eventlog.proofs.ByKind.{by-transfer, no-transfer}
 use Rattle.text.proofs.Lines.{report-end-there}

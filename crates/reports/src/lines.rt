@@ -3,7 +3,6 @@ use crate::Figures;
 use crate::row_of;
 use text::Piece;
 ghost use mathlib.Core.Path.{_≡_};
-ghost use Prim.Native.Nat.{_≤_};
 ghost use lib.ListN.{length};
 ghost use Rattle.laws.specs.Buffer.{laidOver};
 ghost use Rattle.text.specs.Whole.{pieceOf, laidWhole};
