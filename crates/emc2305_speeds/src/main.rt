@@ -30,7 +30,7 @@ fn usage(output: i32, what: &[u8]) {
         b"usage: emc2305_speeds POLES   reports speeds over the log on standard input; POLES is 1, 2, 3 or 4
 A line for each fan: its number, its samples, their lowest, highest and total RPM, and its samples with count 0; then
 `end PLACE` or `stop PLACE NUMBER`.
-docs/LOG.md describes the log.
+docs/LOG.md describes the log and the report.
 ",
         what,
     );
