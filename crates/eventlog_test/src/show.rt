@@ -80,6 +80,10 @@ pub fn event(event: Event, log: &[u8]) {
             }
             part(log, place, len);
         }
+        Event::PowerOnPart { address, fans } => {
+            named(b"part-on ", address as u64);
+            named(b" ", fans as u64);
+        }
     }
 }
 

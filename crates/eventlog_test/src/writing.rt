@@ -53,6 +53,10 @@ fn event_of(fields: &[u8]) -> Event {
             fan: small,
             drive: fields[2],
         },
+        6 => Event::PowerOnPart {
+            address: small,
+            fans: fields[2],
+        },
         kind => Event::Transfer {
             reads: kind == READS,
             address: small,
