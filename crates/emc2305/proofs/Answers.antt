@@ -40,9 +40,9 @@ module _ (log : List ℕ) (event : Event) (c : Chip) where
 
 -- the answer
 module _ (c : Chip) (log : List ℕ) (event : Event) (reply : List ℕ) (number : ℕ)
-    (e : number ≡ stepNumber (c .powered) (c .address) log event (length reply)) where
+    (e : number ≡ stepNumber (c .part) (c .powered) (c .address) log event (length reply)) where
   module _ (z : number ≡ 0) where
-    is-taken : eqb (stepNumber (c .powered) (c .address) log event (length reply)) 0 ≡ true
+    is-taken : eqb (stepNumber (c .part) (c .powered) (c .address) log event (length reply)) 0 ≡ true
     is-taken = eq-eqb _ 0 (sym e ∙ z)
 
     pub taken-answer : (laid : ℕ) (next : Chip) → laid ≡ replyLength log event → next ≡ taken log event c
@@ -55,7 +55,7 @@ module _ (c : Chip) (log : List ℕ) (event : Event) (reply : List ℕ) (number 
     taken-reply last f = rw (f, is-taken) refl
 
   module _ (z : number ≡ 0 → ⊥) where
-    is-refused : eqb (stepNumber (c .powered) (c .address) log event (length reply)) 0 ≡ false
+    is-refused : eqb (stepNumber (c .part) (c .powered) (c .address) log event (length reply)) 0 ≡ false
     is-refused = ne-eqb _ 0 (λ h. z (e ∙ h))
 
     pub refused-answer : record { number = number; laid = 0; chip = c } ≡ stepped c log event (length reply)

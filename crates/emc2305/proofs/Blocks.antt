@@ -8,7 +8,7 @@ use lib.Dec.{leb}
 use lib.ListN.{length, drop, set, length-set, length-drop}
 use lib.Seq.{getD-set-same, set-getD, set-set, drop-drop}
 use borrow.Author.Tests.{leb-true, leb-false}
-use Rattle.laws.proofs.Lists.{map-keeps}
+use Rattle.laws.proofs.Lists.{moved-keeps}
 use Rattle.laws.proofs.Tests.{by-test}
 use Rattle.emc2305_fan.specs.declared.Bit.{Bit}
 use Rattle.emc2305_fan.specs.declared.Fan.{Fan}
@@ -25,11 +25,10 @@ use Rattle.emc2305_chip.specs.declared.Own.{Own}
 use Rattle.emc2305_chip.specs.declared.Own.the-variants.{Configuration, Status, StallStatus, SpinStatus, DriveFailStatus, Enable, Output, Lock, Identity}
 use Rattle.emc2305_chip.specs.declared.Register.{Register}
 use Rattle.emc2305_chip.specs.declared.Register.the-variants.{OfFan, OfChip, Undefined}
-use Rattle.emc2305_chip.specs.State.{withFans, withPointer}
-use Rattle.emc2305_chip.specs.Map.{registerOf}
+use Rattle.emc2305_chip.specs.State.{fanCount, withFans, withPointer}
 use Rattle.emc2305_chip.specs.Fans.{noFan, fanAt}
 use Rattle.emc2305_chip.specs.Watching.{programmedIf}
-use Rattle.emc2305_chip.specs.Registers.{isLocked, ownShown, clears, ownCleared, clearedOf, writable, ownStores, ownWritten, fanStored, shownAt, clearedAt, storesAt, writtenAt}
+use Rattle.emc2305_chip.specs.Registers.{isLocked, ownShown, clears, ownCleared, clearedOf, registerAt, writable, ownStores, ownWritten, fanStored, shownAt, clearedAt, storesAt, writtenAt}
 use Rattle.emc2305_chip.proofs.Maps.{fan-map}
 use Rattle.emc2305_chip.proofs.Moves.{cleared-keeps}
 use Rattle.emc2305.specs.Transfers.{pointerPast, pointerAfter, byteWritten, inTurn, byteRead}
@@ -40,7 +39,7 @@ held p fans c = withPointer p (withFans fans c)
 
 module _ (n p byte : ℕ) (fans : List Fan) (c : Chip) where
   -- a byte for a fan, stored or not
-  one-taken : (k o : ℕ) → registerOf p ≡ OfFan k o
+  one-taken : (k o : ℕ) → registerAt c p ≡ OfFan k o
       → held (pointerPast n p) (set fans k (byteTaken (isLocked c) o byte (fanAt fans k)))
       (programmedIf (takes (isLocked c) (fanAt fans k) o && programs o byte) c)
       ≡ byteWritten n byte (held p fans c)
@@ -59,7 +58,7 @@ module _ (n p byte : ℕ) (fans : List Fan) (c : Chip) where
   own-apart Lock = by-test (ownStores c Lock) (λ t. rw t) (λ t. rw t)
   own-apart (Identity i) = refl
 
-  module _ (own : Own) (at : registerOf p ≡ OfChip own) where
+  module _ (own : Own) (at : registerAt c p ≡ OfChip own) where
     pub own-byte : held (pointerPast n p) fans (ownWritten own byte c) ≡ byteWritten n byte (held p fans c)
     unfolding byteWritten writtenAt storesAt
     own-byte = rw (at, sym (own-apart own))
@@ -69,7 +68,7 @@ module _ (n p byte : ℕ) (fans : List Fan) (c : Chip) where
     read-only f = rw (at, f)
 
   -- a byte for no register
-  pub nowhere : registerOf p ≡ Undefined → held (pointerPast n p) fans c ≡ byteWritten n byte (held p fans c)
+  pub nowhere : registerAt c p ≡ Undefined → held (pointerPast n p) fans c ≡ byteWritten n byte (held p fans c)
   unfolding byteWritten writtenAt storesAt
   nowhere at = rw at
 
@@ -115,11 +114,11 @@ module _ (n k : ℕ) (h : k < 5) where
       → inTurn n (drop count bytes) (held (pointerAfter n count p) (set fans k f) (programmedIf flag c)) ≡ inTurn n bytes (held p fans c)
   none-taken bytes o p fans c count f flag s e d g = rw (e, d, g, past-none n p s, set-getD fans k noFan)
 
-  pub row-written : (bytes : List ℕ) (o p : ℕ) (fans : List Fan) (c : Chip) → k < length fans → p < 256 → o ≤ 16 → (n ≤ 1 → length bytes ≤ 1)
+  pub row-written : (bytes : List ℕ) (o p : ℕ) (fans : List Fan) (c : Chip) → k < fanCount c → k < length fans → p < 256 → o ≤ 16 → (n ≤ 1 → length bytes ≤ 1)
       → (0 < length bytes → o < 16 → p ≡ 0x30 + (0x10 * k + o)) → RowWritten bytes o p fans c
   unfolding inTurn bytesTaken bytesProgram
-  row-written [] o p fans c l s b one at = none-taken [] o p fans c (min 0 (16 - o)) (fanAt fans k) false s (omega arith) refl refl
-  row-written (byte ∷ rest) o p fans c l s b one at =
+  row-written [] o p fans c m l s b one at = none-taken [] o p fans c (min 0 (16 - o)) (fanAt fans k) false s (omega arith) refl refl
+  row-written (byte ∷ rest) o p fans c m l s b one at =
       let lock = isLocked c in
       let f = fanAt fans k in
       by-test (leb 16 o)
@@ -135,21 +134,21 @@ module _ (n k : ℕ) (h : k < 5) where
       let more = min (length rest) (16 - (o + 1)) in
       let count : min (suc (length rest)) (16 - o) ≡ suc more = omega arith in
       let same : fanAt (set fans k g) k ≡ g = getD-set-same fans k g noFan l in
-      let step = one-taken n p byte fans c k o (ap registerOf here ∙ fan-map k o h in-row) in
-      let rows = row-written rest (o + 1) next (set fans k g) (programmedIf flag c) (rw (length-set fans k g) l) (past-small n p s) (omega arith)
-      (λ m. omega (arith, one m)) (λ some room. past-next n p (λ m. omega (arith, one m)) (omega arith) ∙ (omega arith)) in
+      let step = one-taken n p byte fans c k o (ap (registerAt c) here ∙ fan-map (fanCount c) k o h in-row .0 m) in
+      let rows = row-written rest (o + 1) next (set fans k g) (programmedIf flag c) m (rw (length-set fans k g) l) (past-small n p s) (omega arith)
+      (λ few. omega (arith, one few)) (λ some room. past-next n p (λ few. omega (arith, one few)) (omega arith) ∙ (omega arith)) in
       rw (count, sym step)
       (rw (same, set-set fans k g (bytesTaken lock (o + 1) rest g), either-programs flag (bytesProgram lock (o + 1) rest g) (c .watch), past-more n p more) at rows))
 
 -- the same while bytes are taken from a place on, by what a fan's write answers
 pub row-turn : (n k o i p : ℕ) (bytes lent : List ℕ) (fans : List Fan) (c : Chip) (locked flag : Bool) (f : Fan) (count : ℕ)
-    → k < 5 → k < length fans → o < 16 → p ≡ 0x30 + (0x10 * k + o) → n ≡ length bytes → lent ≡ drop i bytes → locked ≡ isLocked c
+    → k < 5 → k < fanCount c → k < length fans → o < 16 → p ≡ 0x30 + (0x10 * k + o) → n ≡ length bytes → lent ≡ drop i bytes → locked ≡ isLocked c
     → f ≡ bytesTaken locked o lent (fanAt fans k) → flag ≡ bytesProgram locked o lent (fanAt fans k) → count ≡ min (length lent) (16 - o)
     → inTurn n (drop (i + count) bytes) (held (pointerAfter n count p) (set fans k f) (programmedIf flag c)) ≡ inTurn n (drop i bytes) (held p fans c)
-row-turn n k o i p bytes lent fans c locked flag f count h l r at whole e q x y z =
+row-turn n k o i p bytes lent fans c locked flag f count h m l r at whole e q x y z =
     let short = length-drop i bytes in
     rw (x, y, z, q, e, sym (drop-drop (min (length (drop i bytes)) (16 - o)) i bytes))
-    (row-written n k h (drop i bytes) o p fans c l (omega arith) (omega arith) (λ m. omega (arith, short)) (λ some room. at))
+    (row-written n k h (drop i bytes) o p fans c m l (omega arith) (omega arith) (λ few. omega (arith, short)) (λ some room. at))
 
 -- every fan shows in one list what it shows in the other
 abbrev pub SameShown : List Fan → List Fan → Type 0
@@ -163,7 +162,7 @@ bit-apart which f o = ap (λ (g : Fan). shown g o) (status-read which f .2)
 cleared-shown : (c : Chip) (r : Register) → SameShown (clearedOf r c .fans) (c .fans)
 cleared-shown c r k o =
     cleared-keeps (λ (d : Chip). shown (fanAt (d .fans) k) o) c refl
-    (λ which. map-keeps (λ (f : Fan). shown f o) (bitRead which) (λ f. bit-apart which f o) (c .fans) k noFan) r
+    (λ which. moved-keeps (λ (f : Fan). shown f o) (fanCount c) (bitRead which) (λ f. bit-apart which f o) (c .fans) k noFan) r
 
 -- what a read of the chip's own shows and clears does not go by the pointer
 shown-apart : (p : ℕ) (c : Chip) (own : Own) → ownShown (withPointer p c) own ≡ ownShown c own
@@ -207,19 +206,19 @@ module _ (n p byte : ℕ) (c next : Chip) where
       (byte ≡ shownAt (withPointer p c) p) × (withPointer (pointerPast n p) next ≡ byteRead n (withPointer p c)) × SameShown (next .fans) fans
 
   module _ (fans : List Fan) (same : SameShown (c .fans) fans) where
-    pub fan-read : (k o : ℕ) → registerOf p ≡ OfFan k o → byte ≡ shown (fanAt fans k) o → next ≡ c → ReadOne fans
+    pub fan-read : (k o : ℕ) → registerAt c p ≡ OfFan k o → byte ≡ shown (fanAt fans k) o → next ≡ c → ReadOne fans
     unfolding shownAt byteRead clearedAt
     fan-read k o at e m = rw (m, at) (e ∙ sym (same k o), refl, same)
 
-    pub none-read : registerOf p ≡ Undefined → byte ≡ 0 → next ≡ c → ReadOne fans
+    pub none-read : registerAt c p ≡ Undefined → byte ≡ 0 → next ≡ c → ReadOne fans
     unfolding shownAt byteRead clearedAt
     none-read at e m = rw (m, at) (e, refl, same)
 
-    pub own-read : (own : Own) → registerOf p ≡ OfChip own → byte ≡ ownShown c own → next ≡ ownCleared own c → ReadOne fans
+    pub own-read : (own : Own) → registerAt c p ≡ OfChip own → byte ≡ ownShown c own → next ≡ ownCleared own c → ReadOne fans
     unfolding shownAt byteRead clearedAt
     own-read own at e m =
         rw (m, at, cleared-apart p c own)
         (e ∙ sym (shown-apart p c own), refl, λ k o. cleared-shown c (OfChip own) k o ∙ same k o)
 
-    pub own-shown : (own : Own) → registerOf p ≡ OfChip own → byte ≡ ownShown c own → clears own ≡ false → next ≡ c → ReadOne fans
+    pub own-shown : (own : Own) → registerAt c p ≡ OfChip own → byte ≡ ownShown c own → clears own ≡ false → next ≡ c → ReadOne fans
     own-shown own at e f m = own-read own at e (m ∙ sym (uncleared c own f))

@@ -8,5 +8,6 @@ pub mod Numbers
 pub mod Effects
 pub mod SameSteps
 pub mod FansKept
+pub mod Parts
 pub mod LockKept
 pub mod Promises

@@ -1,14 +1,15 @@
 -- Locked, no event but a power-on changes EFh or a locked register.
 use mathlib.Core.Path.{_≡_, refl, sym, ap, _∙_}
 use mathlib.Core.Bool.{Bool, true, false, cond, not, _&&_, false≢true, true≢false}
-use mathlib.Core.List.{List, [], _∷_, map}
+use mathlib.Core.List.{List, [], _∷_}
 use Prim.Native.Nat.{ℕ, _-_, _≤_}
 use native.Mathlib.Omega.{arith}
 use lib.Dec.{leb, eqb}
 use lib.ListN.{length, getD, set}
 use lib.Seq.{getD-set-other}
 use borrow.Author.Tests.{leb-true, eqb-true, ne-eqb, not-true}
-use Rattle.laws.proofs.Lists.{map-keeps, set-keeps}
+use Rattle.laws.specs.Lists.{firstMoved}
+use Rattle.laws.proofs.Lists.{moved-keeps, set-keeps}
 use Rattle.laws.proofs.Repeat.{repeated-keeps}
 use Rattle.laws.proofs.Tests.{by-test, and-left, and-right}
 use Rattle.eventlog.specs.declared.Event.{Event}
@@ -28,11 +29,10 @@ use Rattle.emc2305_chip.specs.declared.Register.{Register}
 use Rattle.emc2305_chip.specs.declared.Own.{Own}
 use Rattle.emc2305_chip.specs.declared.Own.the-variants.{Configuration, Status, StallStatus, SpinStatus, DriveFailStatus, Enable, Output, Lock, Identity}
 use Rattle.emc2305_chip.specs.declared.Register.the-variants.{OfFan, OfChip, Undefined}
-use Rattle.emc2305_chip.specs.State.{withPointer}
-use Rattle.emc2305_chip.specs.Map.{registerOf}
+use Rattle.emc2305_chip.specs.State.{fanCount, withPointer}
 use Rattle.emc2305_chip.specs.Fans.{noFan, fanAt}
 use Rattle.emc2305_chip.specs.Watching.{fedChip}
-use Rattle.emc2305_chip.specs.Registers.{ownShown, shownOf, isLocked, ownGuarded, guarded, writable, storesIn, fanStored, shownAt, storesAt, writtenAt}
+use Rattle.emc2305_chip.specs.Registers.{ownShown, shownOf, isLocked, ownGuarded, guarded, registerAt, writable, storesIn, fanStored, shownAt, storesAt, writtenAt}
 use Rattle.emc2305_chip.specs.Ticks.{chipTicked}
 use Rattle.emc2305_chip.proofs.Moves.{stored-keeps, written-keeps, tickMove, tick-fans, tick-rest}
 use Rattle.emc2305.specs.Transfers.{byteWritten, inTurn, sent, readOut}
@@ -40,6 +40,7 @@ use Rattle.emc2305.specs.Step.{taken}
 use Rattle.emc2305.specs.Promises.{Locked, after}
 use Rattle.emc2305.proofs.Effects.{by-effect}
 use Rattle.emc2305.proofs.ReadKeeps.{passed-keeps, read-keeps}
+use Rattle.emc2305.proofs.Parts.{after-part}
 use Rattle.emc2305.proofs.Numbers.{after-keeps}
 
 -- a fan's locked register
@@ -85,10 +86,10 @@ module _ (o : ℕ) (l : locked o ≡ true) where
       (λ t. rw t (getD-set-other (f .registers) offset o byte 0 (λ e. true≢false (sym l ∙ ap locked e ∙ free))))
       (λ t. rw t))
 
-  -- in the list of fans: all moved alike, and one changed
-  all-still : (move : Fan → Fan) → ((f : Fan) → shown (move f) o ≡ shown f o) → (fans : List Fan) (i : ℕ)
-      → shown (fanAt (map move fans) i) o ≡ shown (fanAt fans i) o
-  all-still move keeps fans i = map-keeps (λ (f : Fan). shown f o) move keeps fans i noFan
+  -- in the list of fans: the first n moved alike, and one changed
+  all-still : (n : ℕ) (move : Fan → Fan) → ((f : Fan) → shown (move f) o ≡ shown f o) → (fans : List Fan) (i : ℕ)
+      → shown (fanAt (firstMoved n move fans) i) o ≡ shown (fanAt fans i) o
+  all-still n move keeps fans i = moved-keeps (λ (f : Fan). shown f o) n move keeps fans i noFan
 
   one-still : (k : ℕ) (f : Fan) (fans : List Fan) (i : ℕ) → shown f o ≡ shown (fanAt fans k) o → shown (fanAt (set fans k f) i) o ≡ shown (fanAt fans i) o
   one-still k f fans i e = set-keeps (λ (g : Fan). shown g o) fans k f i noFan e
@@ -120,12 +121,12 @@ aside : (c d : Chip) → d .configuration ≡ c .configuration → d .lock ≡ c
 aside c d e l f = same c d e l (λ i o k. ap (λ (fans : List Fan). shown (fanAt fans i) o) f)
 
 tick-same : (c : Chip) → Same c (chipTicked c)
-tick-same c = same c (chipTicked c) (tick-rest c .0) (tick-rest c .1) (λ i o l. rw (tick-fans c) (all-still o l (tickMove c) (tick-still o l c) (c .fans) i))
+tick-same c = same c (chipTicked c) (tick-rest c .0) (tick-rest c .1) (λ i o l. rw (tick-fans c) (all-still o l (fanCount c) (tickMove c) (tick-still o l c) (c .fans) i))
 
 read-same : (n : ℕ) (c : Chip) → Same c (readOut n c)
 read-same n c register g =
     read-keeps (λ (d : Chip). shownOf d register) n c (λ d p. aside d _ refl refl refl register g) (λ d. aside d _ refl refl refl register g)
-    (λ d which. same d _ refl refl (λ i o l. all-still o l (bitRead which) (read-still o l which) (d .fans) i) register g)
+    (λ d which. same d _ refl refl (λ i o l. all-still o l (fanCount d) (bitRead which) (read-still o l which) (d .fans) i) register g)
 
 -- a write that is stored while locked is to no guarded register
 unguarded : (c : Chip) → isLocked c ≡ true → (register : Register) → storesIn c register ≡ true → not (guarded register) ≡ true
@@ -145,7 +146,7 @@ write-same n byte c k register g =
     (λ j offset e.
     let free = not-true (locked offset) e in
     same c _ refl refl (λ i o l. one-still o l j _ (c .fans) i (write-still o l offset byte (fanAt (c .fans) j) free)) register g)
-    (λ e. absurd (false≢true e)) (registerOf (c .pointer)) (unguarded c k (registerOf (c .pointer)) t))
+    (λ e. absurd (false≢true e)) (registerAt c (c .pointer)) (unguarded c k (registerAt c (c .pointer)) t))
 
 turns-same : (n : ℕ) (bytes : List ℕ) (c : Chip) → isLocked c ≡ true → Same c (inTurn n bytes c)
 unfolding inTurn
@@ -162,7 +163,7 @@ sent-same (pointer ∷ rest) c k register g =
 taken-same : (log : List ℕ) (event : Event) (c : Chip) → isLocked c ≡ true → isPowerOn event ≡ false → Same c (taken log event c)
 unfolding taken
 taken-same log event c k =
-    by-effect (λ (e : Event). isPowerOn e ≡ false → Same c (taken log e c)) (λ address p register g. absurd (true≢false p))
+    by-effect (λ (e : Event). isPowerOn e ≡ false → Same c (taken log e c)) (λ e on p register g. absurd (true≢false (sym (on .powers) ∙ p)))
     (λ n p register g. repeated-keeps (λ (d : Chip). shownOf d register) n chipTicked c (λ d. tick-same d register g))
     (λ fan n p. same c _ refl refl (λ i o l. one-still o l (fan - 1) _ (c .fans) i (sample-still o l n _ _)))
     (λ fan drive p. same c _ refl refl (λ i o l. one-still o l (fan - 1) _ (c .fans) i (wish-still o l drive _)))
@@ -174,5 +175,8 @@ pub locked-kept : Locked
 unfolding shownAt
 locked-kept c log event room k p =
     let kept : Same c (after log event room c) =
-    λ register g. after-keeps (λ (d : Chip). shownOf d register) c log event room (taken-same log event c k p register g) in
-    (ap (bit 0) (kept (OfChip Lock) refl) ∙ k, λ address g. kept (registerOf address) g)
+    λ register g. after-keeps (λ (d : Chip). shownOf d register) c log event room (taken-same log event c k p register g) in (
+      ap (bit 0) (kept (OfChip Lock) refl) ∙ k,
+      λ address g.
+          rw (after-part log event room c p) (kept (registerAt c address) g),
+    )

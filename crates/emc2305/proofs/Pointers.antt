@@ -14,8 +14,7 @@ use Rattle.laws.proofs.Tests.{by-test}
 use Rattle.emc2305_chip.specs.declared.Chip.{Chip}
 use Rattle.emc2305_chip.specs.declared.Register.{Register}
 use Rattle.emc2305_chip.specs.State.{withPointer}
-use Rattle.emc2305_chip.specs.Map.{registerOf}
-use Rattle.emc2305_chip.specs.Registers.{fanStored, shownAt, clearedAt, writtenAt}
+use Rattle.emc2305_chip.specs.Registers.{registerAt, fanStored, shownAt, clearedAt, writtenAt}
 use Rattle.emc2305_chip.proofs.Moves.{cleared-keeps, stored-keeps, written-keeps}
 use Rattle.emc2305.specs.Transfers.{pointerPast, pointerAfter, passed, byteWritten, inTurn, sent, byteRead, replyOf}
 use Rattle.emc2305.specs.Promises.{Pointer, ReplyBytes}
@@ -24,14 +23,14 @@ use Rattle.emc2305.proofs.Turns.{reply-length}
 -- neither a read nor a write moves the pointer itself
 read-stays : (address : ℕ) (c : Chip) → clearedAt address c .pointer ≡ c .pointer
 unfolding clearedAt
-read-stays address c = cleared-keeps (λ (d : Chip). d .pointer) c refl (λ which. refl) (registerOf address)
+read-stays address c = cleared-keeps (λ (d : Chip). d .pointer) c refl (λ which. refl) (registerAt c address)
 
 write-stays : (address byte : ℕ) (c : Chip) → writtenAt address byte c .pointer ≡ c .pointer
 unfolding fanStored
 write-stays address byte c =
     let v : Chip → ℕ = λ d. d .pointer in
     written-keeps v address byte c
-    (λ t. stored-keeps v (λ (r : Register). true) byte c (λ e. refl) refl (λ i. refl) (λ i offset e. refl) (λ e. refl) (registerOf address) refl)
+    (λ t. stored-keeps v (λ (r : Register). true) byte c (λ e. refl) refl (λ i. refl) (λ i offset e. refl) (λ e. refl) (registerAt c address) refl)
 
 -- where no byte was passed, and where one more was
 none-passed : (n p : ℕ) → p < 256 → p ≡ pointerAfter n 0 p

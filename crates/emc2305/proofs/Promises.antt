@@ -21,6 +21,7 @@ pub watch-after : WatchAfter
 unfolding taken atDefaults
 watch-after c log = (
   λ address. refl,
+  λ address fans. refl,
   λ fan count. refl,
   λ fan drive. refl,
   λ to place n. read-keeps watch _ (fedChip c) (λ d p. refl) (λ d. refl) (λ d which. refl),

@@ -13,7 +13,8 @@ use Rattle.eventlog.specs.declared.Event.the-variants.{Sample, Wish, Transfer}
 use Rattle.eventlog.specs.Kinds.{replyLength}
 use Rattle.eventlog.specs.Range.{fanInRange, rangeNumber}
 use Rattle.eventlog.proofs.Ranges.{fan-right, place-within, one-byte}
-use Rattle.emc2305.specs.Step.{beforePower, elsewhere, stepNumber}
+use Rattle.emc2305_parts.specs.declared.Part.{Part}
+use Rattle.emc2305.specs.Step.{beforePower, absent, elsewhere, stepNumber}
 
 module _ (log : List ℕ) (event : Event) (good : rangeNumber log event ≡ 0) where
   in-range-as : (other : Event) → event ≡ other → rangeNumber log other ≡ 0
@@ -38,26 +39,31 @@ module _ (log : List ℕ) (event : Event) (good : rangeNumber log event ≡ 0) w
       omega (arith, sent-within reads to place n e, one-byte log reads to place n (in-range-as (Transfer reads to place n) e) r)
 
 -- the number, way by way
-module _ (powered : Bool) (address : ℕ) (log : List ℕ) (event : Event) (room : ℕ) where
-  pub gives-range : (range : ℕ) → range ≡ rangeNumber log event → (range ≡ 0 → ⊥) → range ≡ stepNumber powered address log event room
+module _ (part : Part) (powered : Bool) (address : ℕ) (log : List ℕ) (event : Event) (room : ℕ) where
+  pub gives-range : (range : ℕ) → range ≡ rangeNumber log event → (range ≡ 0 → ⊥) → range ≡ stepNumber part powered address log event room
   unfolding stepNumber
   gives-range range e h = rw (sym e, ne-eqb range 0 h)
 
   module _ (e : rangeNumber log event ≡ 0) where
-    pub gives-6 : beforePower powered event ≡ true → 6 ≡ stepNumber powered address log event room
+    pub gives-6 : beforePower powered event ≡ true → 6 ≡ stepNumber part powered address log event room
     unfolding stepNumber
     gives-6 f = rw (e, f)
 
     module _ (f : beforePower powered event ≡ false) where
-      pub gives-7 : elsewhere address event ≡ true → 7 ≡ stepNumber powered address log event room
+      pub gives-21 : absent part event ≡ true → 21 ≡ stepNumber part powered address log event room
       unfolding stepNumber
-      gives-7 g = rw (e, f, g)
+      gives-21 a = rw (e, f, a)
 
-      module _ (g : elsewhere address event ≡ false) where
-        pub gives-8 : room < replyLength log event → 8 ≡ stepNumber powered address log event room
+      module _ (a : absent part event ≡ false) where
+        pub gives-7 : elsewhere address event ≡ true → 7 ≡ stepNumber part powered address log event room
         unfolding stepNumber
-        gives-8 h = rw (e, f, g, lt-ltb room (replyLength log event) h)
+        gives-7 g = rw (e, f, a, g)
 
-        pub gives-0 : replyLength log event ≤ room → 0 ≡ stepNumber powered address log event room
-        unfolding stepNumber
-        gives-0 h = rw (e, f, g, le-ltb room (replyLength log event) h)
+        module _ (g : elsewhere address event ≡ false) where
+          pub gives-8 : room < replyLength log event → 8 ≡ stepNumber part powered address log event room
+          unfolding stepNumber
+          gives-8 h = rw (e, f, a, g, lt-ltb room (replyLength log event) h)
+
+          pub gives-0 : replyLength log event ≤ room → 0 ≡ stepNumber part powered address log event room
+          unfolding stepNumber
+          gives-0 h = rw (e, f, a, g, le-ltb room (replyLength log event) h)

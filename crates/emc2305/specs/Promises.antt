@@ -8,45 +8,52 @@ use lib.ListN.{length, getD}
 use Rattle.laws.specs.Repeat.{repeated}
 use Rattle.laws.specs.Buffer.{bytesAt, laidOver}
 use Rattle.eventlog.specs.declared.Event.{Event}
-use Rattle.eventlog.specs.declared.Event.the-variants.{PowerOn, Ticks, Sample, Wish, Transfer}
+use Rattle.eventlog.specs.declared.Event.the-variants.{PowerOn, Ticks, Sample, Wish, Transfer, PowerOnPart}
 use Rattle.eventlog.specs.Kinds.{isPowerOn, replyLength}
 use Rattle.eventlog.specs.Layout.{said}
 use Rattle.eventlog.specs.Numbers.{fieldFault}
 use Rattle.eventlog.specs.Range.{rangeNumber}
+use Rattle.emc2305_parts.specs.declared.Part.{Part}
+use Rattle.emc2305_parts.specs.declared.Part.the-variants.{Emc2305}
+use Rattle.emc2305_parts.specs.Parts.{partWith}
 use Rattle.emc2305_fan.specs.Status.{butStatus}
 use Rattle.emc2305_watchdog.specs.declared.Watch.the-variants.{PowerUp}
 use Rattle.emc2305_watchdog.specs.Watch.{fed}
 use Rattle.emc2305_chip.specs.declared.Chip.{Chip}
-use Rattle.emc2305_chip.specs.Map.{registerOf}
+use Rattle.emc2305_chip.specs.State.{fanCount}
 use Rattle.emc2305_chip.specs.Fans.{fanAt}
 use Rattle.emc2305_chip.specs.Watching.{fedChip}
-use Rattle.emc2305_chip.specs.Registers.{shownAt, isLocked, guarded}
+use Rattle.emc2305_chip.specs.Registers.{shownAt, isLocked, guarded, registerAt}
 use Rattle.emc2305.specs.Transfers.{pointerAfter, sent, byteRead, replyOf, readOut}
-use Rattle.emc2305.specs.Step.{beforePower, elsewhere, stepNumber, taken, replyTo, stepped, replyAfter}
+use Rattle.emc2305.specs.Step.{beforePower, absent, elsewhere, stepNumber, taken, replyTo, stepped, replyAfter}
 use Rattle.emc2305.specs.Traffic.{storesTo}
 
 -- the chip after a step, with a reply buffer of so many bytes
 abbrev pub after : List ℕ → Event → ℕ → Chip → Chip
 after log event room c = stepped c log event room .chip
 
--- each number exactly when document 01 says, from the powered flag, the address, the log, the event and the buffer's length alone
+-- each number exactly when documents 01 and 02 say, from the part, the powered flag, the address, the log, the event and the buffer's length alone
 abbrev pub StepNumbers : Type 0
 StepNumbers =
-    (powered : Bool) (address : ℕ) (log : List ℕ) (event : Event) (room : ℕ)
-    → ((number : ℕ) → fieldFault number ≡ true → stepNumber powered address log event room ≡ number ↔ rangeNumber log event ≡ number)
-    × (stepNumber powered address log event room ≡ 6 ↔ (rangeNumber log event ≡ 0) × (beforePower powered event ≡ true))
-    × (stepNumber powered address log event room ≡ 7
-    ↔ (rangeNumber log event ≡ 0) × (beforePower powered event ≡ false) × (elsewhere address event ≡ true))
-    × (stepNumber powered address log event room ≡ 8
-    ↔ (rangeNumber log event ≡ 0) × (beforePower powered event ≡ false) × (elsewhere address event ≡ false) × (room < replyLength log event))
-    × (stepNumber powered address log event room ≡ 0
-    ↔ (rangeNumber log event ≡ 0) × (beforePower powered event ≡ false) × (elsewhere address event ≡ false) × (replyLength log event ≤ room))
+    (part : Part) (powered : Bool) (address : ℕ) (log : List ℕ) (event : Event) (room : ℕ)
+    → ((number : ℕ) → fieldFault number ≡ true → stepNumber part powered address log event room ≡ number ↔ rangeNumber log event ≡ number)
+    × (stepNumber part powered address log event room ≡ 6 ↔ (rangeNumber log event ≡ 0) × (beforePower powered event ≡ true))
+    × (stepNumber part powered address log event room ≡ 21
+    ↔ (rangeNumber log event ≡ 0) × (beforePower powered event ≡ false) × (absent part event ≡ true))
+    × (stepNumber part powered address log event room ≡ 7
+    ↔ (rangeNumber log event ≡ 0) × (beforePower powered event ≡ false) × (absent part event ≡ false) × (elsewhere address event ≡ true))
+    × (stepNumber part powered address log event room ≡ 8
+    ↔ (rangeNumber log event ≡ 0) × (beforePower powered event ≡ false) × (absent part event ≡ false) × (elsewhere address event ≡ false)
+    × (room < replyLength log event))
+    × (stepNumber part powered address log event room ≡ 0
+    ↔ (rangeNumber log event ≡ 0) × (beforePower powered event ≡ false) × (absent part event ≡ false) × (elsewhere address event ≡ false)
+    × (replyLength log event ≤ room))
 
--- a step answers that number, of its chip's flag and address
+-- a step answers that number, of its chip's part, flag and address
 abbrev pub Numbered : Type 0
 Numbered =
     (c : Chip) (log : List ℕ) (event : Event) (room : ℕ)
-    → stepped c log event room .number ≡ stepNumber (c .powered) (c .address) log event room
+    → stepped c log event room .number ≡ stepNumber (c .part) (c .powered) (c .address) log event room
 
 -- a refused step changes nothing
 abbrev pub Refused : Type 0
@@ -69,11 +76,25 @@ SameEvents =
     (c : Chip) (a b : List ℕ) (e f : Event) (room : ℕ) → rangeNumber a e ≡ 0 → rangeNumber b f ≡ 0 → said a e ≡ said b f
     → (stepped c a e room ≡ stepped c b f room) × (replyTo a e c ≡ replyTo b f c)
 
--- every step leaves a chip of five fans
+-- every step leaves a chip with five places for fans
 abbrev pub FiveFans : Type 0
 FiveFans =
     (c : Chip) (log : List ℕ) (event : Event) (room : ℕ) → length (c .fans) ≡ 5
     → length (after log event room c .fans) ≡ 5
+
+-- the part after each event that is taken: that of a power-on; any other event leaves it
+abbrev pub PartAfter : Type 0
+PartAfter =
+    (c : Chip) (log : List ℕ)
+    → ((address : ℕ) → taken log (PowerOn address) c .part ≡ Emc2305)
+    × ((address fans : ℕ) → taken log (PowerOnPart address fans) c .part ≡ partWith fans)
+    × ((event : Event) → isPowerOn event ≡ false → taken log event c .part ≡ c .part)
+
+-- no event but a power-on changes a fan that is absent
+abbrev pub AbsentFans : Type 0
+AbsentFans =
+    (c : Chip) (log : List ℕ) (event : Event) (room i : ℕ) → isPowerOn event ≡ false → fanCount c ≤ i
+    → fanAt (after log event room c .fans) i ≡ fanAt (c .fans) i
 
 -- a sample or a wish leaves every other fan as it was; a transfer every fan to whose registers it stores nothing, but for what a read does to status bits
 abbrev pub OtherFans : Type 0
@@ -90,7 +111,7 @@ abbrev pub Locked : Type 0
 Locked =
     (c : Chip) (log : List ℕ) (event : Event) (room : ℕ) → isLocked c ≡ true → isPowerOn event ≡ false
     → (isLocked (after log event room c) ≡ true)
-    × ((address : ℕ) → guarded (registerOf address) ≡ true → shownAt (after log event room c) address ≡ shownAt c address)
+    × ((address : ℕ) → guarded (registerAt c address) ≡ true → shownAt (after log event room c) address ≡ shownAt c address)
 
 -- the pointer after any transfer: as it was, where there are no bytes; else by the first byte and the count of data bytes
 abbrev pub Pointer : Type 0
@@ -124,6 +145,7 @@ abbrev pub WatchAfter : Type 0
 WatchAfter =
     (c : Chip) (log : List ℕ)
     → ((address : ℕ) → taken log (PowerOn address) c .watch ≡ PowerUp 0)
+    × ((address fans : ℕ) → taken log (PowerOnPart address fans) c .watch ≡ PowerUp 0)
     × ((fan count : ℕ) → taken log (Sample fan count) c .watch ≡ c .watch)
     × ((fan drive : ℕ) → taken log (Wish fan drive) c .watch ≡ c .watch)
     × ((to place n : ℕ) → taken log (Transfer true to place n) c .watch ≡ fed (c .watch))

@@ -9,14 +9,14 @@ use Rattle.eventlog.specs.declared.Event.{Event}
 use Rattle.eventlog.specs.Kinds.{onSample, onWish, onTransfer}
 use Rattle.emc2305_chip.specs.declared.Chip.{Chip}
 use Rattle.emc2305_chip.specs.State.{withPointer}
-use Rattle.emc2305_chip.specs.Map.{registerOf, isOfFan}
+use Rattle.emc2305_chip.specs.Map.{isOfFan}
 use Rattle.emc2305_chip.specs.Watching.{fedChip}
-use Rattle.emc2305_chip.specs.Registers.{storesAt}
+use Rattle.emc2305_chip.specs.Registers.{registerAt, storesAt}
 use Rattle.emc2305.specs.Transfers.{byteWritten}
 
 -- a data byte written at the pointer is a stored write to a register of fan i + 1
 abbrev pub byteStoresTo : ℕ → Chip → Bool
-byteStoresTo i c = isOfFan i (registerOf (c .pointer)) && storesAt c (c .pointer)
+byteStoresTo i c = isOfFan i (registerAt c (c .pointer)) && storesAt c (c .pointer)
 
 -- one of the data bytes, of n in all, is a stored write to a register of fan i + 1
 unfoldable pub anyStoresTo : ℕ → ℕ → List ℕ → Chip → Bool

@@ -2,6 +2,8 @@
 use crate::Answer;
 use crate::transfers;
 use emc2305_chip::Chip;
+use emc2305_parts::Part;
+use eventlog::ABSENT_FAN;
 use eventlog::ELSEWHERE;
 use eventlog::Event;
 use eventlog::NO_POWER;
@@ -13,13 +15,14 @@ ghost use lib.ListN.{length};
 ghost use Rattle.laws.specs.Buffer.{laidOver};
 ghost use Rattle.eventlog.specs.Kinds.{replyLength};
 ghost use Rattle.eventlog.specs.Range.{rangeNumber};
-ghost use Rattle.emc2305.specs.Step.{beforePower, elsewhere, stepNumber, taken, replyTo, stepped, replyAfter};
+ghost use Rattle.emc2305.specs.Step.{beforePower, absent, elsewhere, stepNumber, taken, replyTo, stepped, replyAfter};
 
 // One event. The reply of a read is laid at the front of the buffer. A refusal leaves chip and buffer as they were.
 pub fn step(chip: Chip, log: &[u8], event: Event, reply: &mut [u8]) -> Answer
     ensures { λ r. ⌜ (r ≡ stepped chip (now (log .entry)) event (length (now (reply .entry)))) × (now (reply .exit) ≡ replyAfter chip (now (log .entry)) event (now (reply .entry))) ⌝ }
 {
-    let number = step_number(chip.powered, chip.address, log, event, reply.len());
+    let part = chip.part;
+    let number = step_number(part, chip.powered, chip.address, log, event, reply.len());
     if number != TAKEN {
         return Answer {
             number,
@@ -36,9 +39,9 @@ pub fn step(chip: Chip, log: &[u8], event: Event, reply: &mut [u8]) -> Answer
     }
 }
 
-// The number: that of a field out of range, then 6, 7, 8.
-fn step_number(powered: bool, address: u8, log: &[u8], event: Event, room: usize) -> u8
-    ensures { λ r. ⌜ r ≡ stepNumber powered address (now (log .entry)) event room ⌝ }
+// The number: that of a field out of range, then 6, 21, 7, 8.
+fn step_number(part: Part, powered: bool, address: u8, log: &[u8], event: Event, room: usize) -> u8
+    ensures { λ r. ⌜ r ≡ stepNumber part powered address (now (log .entry)) event room ⌝ }
 {
     let range = eventlog::range_number(event, log);
     if range != TAKEN {
@@ -46,6 +49,9 @@ fn step_number(powered: bool, address: u8, log: &[u8], event: Event, room: usize
     }
     if before_power(powered, event) {
         return NO_POWER;
+    }
+    if absent(part, event) {
+        return ABSENT_FAN;
     }
     if elsewhere(address, event) {
         return ELSEWHERE;
@@ -62,7 +68,22 @@ fn before_power(powered: bool, event: Event) -> bool
 {
     match event {
         Event::PowerOn(_) => false,
+        Event::PowerOnPart {
+            address: _,
+            fans: _,
+        } => false,
         _ => !powered,
+    }
+}
+
+// 21: a sample or a wish for a fan that is absent.
+fn absent(part: Part, event: Event) -> bool
+    ensures { λ r. ⌜ r ≡ absent part event ⌝ }
+{
+    match event {
+        Event::Sample { fan, count: _ } => part.fans() < fan as usize,
+        Event::Wish { fan, drive: _ } => part.fans() < fan as usize,
+        _ => false,
     }
 }
 
@@ -103,7 +124,7 @@ fn taken(chip: Chip, log: &[u8], event: Event, n: usize, reply: &mut [u8]) -> Ch
     ensures { λ r. ⌜ (r ≡ taken (now (log .entry)) event chip) × (now (reply .exit) ≡ laidOver (replyTo (now (log .entry)) event chip) (now (reply .entry))) ⌝ }
 {
     match event {
-        Event::PowerOn(address) => Chip::power_on(address),
+        Event::PowerOn(address) => Chip::power_on(Part::Emc2305, address),
         Event::Ticks(count) => chip.ticks(count),
         Event::Sample { fan, count } => chip.sample((fan - 1) as usize, count),
         Event::Wish { fan, drive } => chip.wish((fan - 1) as usize, drive),
@@ -119,5 +140,6 @@ fn taken(chip: Chip, log: &[u8], event: Event, n: usize, reply: &mut [u8]) -> Ch
                 transfers::sent(chip.fed(), &log[place..place + len])
             }
         }
+        Event::PowerOnPart { address, fans } => Chip::power_on(Part::with_fans(fans), address),
     }
 }

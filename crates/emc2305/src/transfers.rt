@@ -33,7 +33,7 @@ fn in_turn(mut chip: Chip, bytes: &[u8]) -> Chip
     let mut i = 0;
     while i < n {
         let mut count = 1;
-        match emc2305_chip::register_of(pointer) {
+        match emc2305_chip::register_of(chip.fan_count(), pointer) {
             Register::OfFan(at, offset) => {
                 let fan = fans[at];
                 let written = fan.write(offset, &bytes[i..], chip.is_locked());
@@ -68,15 +68,19 @@ pub(crate) fn read_out(mut chip: Chip, n: usize, reply: &mut [u8]) -> Chip
     let mut pointer = chip.pointer;
     let mut i = 0;
     while i < n {
-        match emc2305_chip::register_of(pointer) {
+        match emc2305_chip::register_of(chip.fan_count(), pointer) {
             Register::OfFan(at, offset) => {
                 let fan = fans[at];
                 reply[i] = fan.register(offset);
             }
             Register::OfChip(own) => {
-                reply[i] = chip.own_register(own);
-                if emc2305_chip::is_cleared(own) {
-                    chip = chip.own_cleared(own);
+                let byte = chip.own_register(own);
+                reply[i] = byte;
+                // A status byte of 0 has nothing to clear.
+                if byte != 0 {
+                    if emc2305_chip::is_cleared(own) {
+                        chip = chip.own_cleared(own);
+                    }
                 }
             }
             Register::Undefined => {

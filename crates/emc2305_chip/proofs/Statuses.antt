@@ -1,13 +1,14 @@
 -- The status bytes and what clears them, the alert line.
 use mathlib.Core.Path.{_≡_, refl, sym, ap, _∙_}
 use mathlib.Core.Bool.{Bool, true, false, cond, not, _&&_, _||_, false≢true, or-true}
-use mathlib.Core.List.{List, map}
+use mathlib.Core.List.{List}
 use Prim.Native.Nat.{ℕ, zero, suc, _+_, _<_}
 use native.Mathlib.Omega.{arith}
 use native.Mathlib.Nat.{add-zero, div-eq-of-lt}
 use lib.Dec.{eqb}
-use lib.ListN.{getD, List·getD-map}
 use borrow.Author.Tests.{eqb-true, eqb-false}
+use Rattle.laws.specs.Lists.{firstMoved}
+use Rattle.laws.proofs.Lists.{moved-all}
 use Rattle.laws.proofs.Divide.{bit-below, bit-own}
 use Rattle.laws.proofs.Tests.{by-test, and-left, and-right}
 use Rattle.emc2305_fan.specs.declared.Bit.{Bit}
@@ -17,6 +18,7 @@ use Rattle.emc2305_fan.specs.Spin.{tooSlow}
 use Rattle.emc2305_fan.specs.Registers.{bit}
 use Rattle.emc2305_fan.specs.Status.{standing, other, stuck, bitRead}
 use Rattle.emc2305_fan.proofs.Statuses.{status-read}
+use Rattle.emc2305_chip.specs.State.{fanCount}
 use Rattle.emc2305_chip.specs.Map.{registerOf}
 use Rattle.emc2305_chip.specs.Fans.{noFan, fanAt, bitsOf, interrupts, interrupting}
 use Rattle.emc2305_chip.specs.Registers.{stallByte, spinByte, clearedAt}
@@ -57,48 +59,48 @@ status-of false false false = (refl, refl, refl)
 pub status-bits : StatusBits
 status-bits c =
     let s = status-of (c .expired) (eqb (spinByte c) 0) (eqb (stallByte c) 0) in (
-      bits-small Stall (c .fans) 5,
-      bits-small Spin (c .fans) 5,
-      λ i h. (bits-at Stall (c .fans) i 5 h, bits-at Spin (c .fans) i 5 h),
+      bits-small Stall (c .fans) (fanCount c),
+      bits-small Spin (c .fans) (fanCount c),
+      λ i h. (bits-at Stall (c .fans) i (fanCount c) h, bits-at Spin (c .fans) i (fanCount c) h),
       s .0,
       s .1,
       s .2,
     )
 
--- fans that have the same bits
-bits-same : (which : Bit) (fans others : List Fan) → ((i : ℕ) → standing which (fanAt fans i) ≡ standing which (fanAt others i))
-    → (n : ℕ) → bitsOf which fans n ≡ bitsOf which others n
+-- fans of which the first n have the same bits
+bits-same : (which : Bit) (fans others : List Fan) (n : ℕ) → ((i : ℕ) → i < n → standing which (fanAt fans i) ≡ standing which (fanAt others i))
+    → bitsOf which fans n ≡ bitsOf which others n
 unfolding bitsOf
-bits-same which fans others h zero = refl
-bits-same which fans others h (suc n) = rw (bits-same which fans others h n, h n)
+bits-same which fans others zero h = refl
+bits-same which fans others (suc n) h = rw (bits-same which fans others n (λ i k. h i (omega arith)), h n (omega arith))
 
--- a fan, one of 25h and 26h read for every fan; none stands past the fifth, and none of it changes
+-- a fan, one of 25h and 26h read for the first n; none stands past the fifth, and none of it changes
 no-fan-read : (which : Bit) → bitRead which noFan ≡ noFan
 unfolding bitRead stuck tooSlow
 no-fan-read Stall = refl
 no-fan-read Spin = refl
 
-read-at : (which : Bit) (fans : List Fan) (i : ℕ) → fanAt (map (bitRead which) fans) i ≡ bitRead which (fanAt fans i)
-read-at which fans i = ap (getD (map (bitRead which) fans) i) (sym (no-fan-read which)) ∙ List·getD-map (bitRead which) fans i noFan
+read-at : (which : Bit) (fans : List Fan) (n i : ℕ) → i < n → fanAt (firstMoved n (bitRead which) fans) i ≡ bitRead which (fanAt fans i)
+read-at which fans n i h = moved-all n (bitRead which) fans i noFan h (no-fan-read which)
 
 -- a bit of what is read, and the bits of the other
-own-bit : (which : Bit) (fans : List Fan) (i : ℕ) → i < 5
-    → bit i (bitsOf which (map (bitRead which) fans) 5) ≡ (bit i (bitsOf which fans 5) && stuck (fanAt fans i))
-own-bit which fans i h =
-    bits-at which (map (bitRead which) fans) i 5 h ∙ ap (standing which) (read-at which fans i) ∙ status-read which (fanAt fans i) .0
-    ∙ rw (bits-at which fans i 5 h)
+own-bit : (which : Bit) (fans : List Fan) (n i : ℕ) → i < n
+    → bit i (bitsOf which (firstMoved n (bitRead which) fans) n) ≡ (bit i (bitsOf which fans n) && stuck (fanAt fans i))
+own-bit which fans n i h =
+    bits-at which (firstMoved n (bitRead which) fans) i n h ∙ ap (standing which) (read-at which fans n i h) ∙ status-read which (fanAt fans i) .0
+    ∙ rw (bits-at which fans i n h)
 
-other-bits : (which : Bit) (fans : List Fan) → bitsOf (other which) (map (bitRead which) fans) 5 ≡ bitsOf (other which) fans 5
-other-bits which fans =
-    bits-same (other which) _ fans (λ i. ap (standing (other which)) (read-at which fans i) ∙ status-read which (fanAt fans i) .1) 5
+other-bits : (which : Bit) (fans : List Fan) (n : ℕ) → bitsOf (other which) (firstMoved n (bitRead which) fans) n ≡ bitsOf (other which) fans n
+other-bits which fans n =
+    bits-same (other which) _ fans n (λ i h. ap (standing (other which)) (read-at which fans n i h) ∙ status-read which (fanAt fans i) .1)
 
 pub read-clears : ReadClears
 unfolding clearedAt registerOf
 read-clears c = (
-  λ i h. (own-bit Stall (c .fans) i h, own-bit Spin (c .fans) i h),
-  other-bits Stall (c .fans),
+  λ i h. (own-bit Stall (c .fans) (fanCount c) i h, own-bit Spin (c .fans) (fanCount c) i h),
+  other-bits Stall (c .fans) (fanCount c),
   refl,
-  other-bits Spin (c .fans),
+  other-bits Spin (c .fans) (fanCount c),
   refl,
   refl,
   refl,
@@ -132,5 +134,5 @@ alert c = (
   λ mask. sym (masked c mask),
   λ mask watch. sym (alert-watch c mask watch),
   λ mask watch.
-      rw (← alert-fans c mask watch) (λ e. found (c .enable) (c .fans) 5 e, λ r. raised (c .enable) (c .fans) 5 (r .0) (r .1) (r .2) (r .3)),
+      rw (← alert-fans c mask watch) (λ e. found (c .enable) (c .fans) (fanCount c) e, λ r. raised (c .enable) (c .fans) (fanCount c) (r .0) (r .1) (r .2) (r .3)),
 )

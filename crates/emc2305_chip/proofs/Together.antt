@@ -1,16 +1,16 @@
 -- Ticks taken together.
 use mathlib.Core.Path.{_≡_, refl, sym, ap, _∙_}
-use mathlib.Core.Bool.{Bool, true, false, _||_}
-use mathlib.Core.List.{List, map, map-id, map-map}
-use Prim.Native.Nat.{ℕ, zero, suc, _+_, _-_, _≤_, _<_}
+use mathlib.Core.Bool.{Bool, true, false, _&&_, _||_, or-false}
+use mathlib.Core.List.{List}
+use Prim.Native.Nat.{ℕ, zero, suc, min, _+_, _-_, _≤_, _<_}
 use native.Mathlib.Omega.{arith}
 use native.Mathlib.Numerals.{add-one}
-use lib.Dec.{eqb}
-use lib.ListN.{length}
+use lib.Dec.{ltb, eqb}
 use borrow.Author.Tests.{eqb-true, eqb-false}
 use Rattle.laws.specs.Repeat.{repeated}
 use Rattle.laws.proofs.Repeat.{first-steps}
-use Rattle.laws.proofs.Lists.{map-still}
+use Rattle.laws.specs.Lists.{firstMoved}
+use Rattle.laws.proofs.Lists.{moved-still, moved-moved}
 use Rattle.laws.proofs.Tests.{by-test, or-left, or-right}
 use Rattle.emc2305_fan.specs.declared.Fan.{Fan}
 use Rattle.emc2305_fan.specs.Tick.{ticked, busy}
@@ -20,15 +20,19 @@ use Rattle.emc2305_watchdog.specs.declared.Quiet.{Quiet}
 use Rattle.emc2305_watchdog.specs.Watch.{fires, watchTicked, quietTicks, watchOn, quietly}
 use Rattle.emc2305_watchdog.proofs.QuietTicks.{quiet-ticks, quiet-within, some-quiet, watch-on-none}
 use Rattle.emc2305_chip.specs.declared.Chip.{Chip}
-use Rattle.emc2305_chip.specs.State.{withFans, withWatch}
+use Rattle.emc2305_chip.specs.State.{fanCount, withFans, withWatch}
 use Rattle.emc2305_chip.specs.Fans.{noFan, fanAt, anyBusy}
 use Rattle.emc2305_chip.specs.Ticks.{allFired, allTicked, chipTicked, allTicks}
 use Rattle.emc2305_chip.proofs.Ways.{tick-fires, tick-goes}
+use Rattle.emc2305_chip.proofs.Bits.{within-count, past-count}
 
--- one fan more
-pub busy-next : (fans : List Fan) (i : ℕ) (on x : Bool) → on ≡ anyBusy fans i → x ≡ busy (fanAt fans i) → (on || x) ≡ anyBusy fans (i + 1)
+-- one place more
+pub busy-next : (fans : List Fan) (n i : ℕ) (on x : Bool) → on ≡ anyBusy fans (min i n) → x ≡ busy (fanAt fans i)
+    → (on || (ltb i n && x)) ≡ anyBusy fans (min (i + 1) n)
 unfolding anyBusy
-busy-next fans i on x sofar e = rw (sofar, e, add-one i) refl
+busy-next fans n i on x sofar e =
+    by-test (ltb i n) (λ t. rw (sofar, t, e, within-count n i t .0, within-count n i t .1))
+    (λ t. rw (sofar, t, past-count n i t, or-false (anyBusy fans (min i n))))
 
 -- where none of the first k is busy
 none-busy : (fans : List Fan) (k i : ℕ) → anyBusy fans k ≡ false → i < k → busy (fanAt fans i) ≡ false
@@ -40,22 +44,22 @@ none-busy fans (suc k) i e h =
 
 module _ (n : ℕ) (c : Chip) where
   -- so n ticks change nothing
-  pub all-idle : {k : ℕ} → k ≡ length (c .fans) → k ≡ 5 → anyBusy (c .fans) 5 ≡ false → c ≡ allTicks n c
-  all-idle h five e =
+  pub all-idle : anyBusy (c .fans) (fanCount c) ≡ false → c ≡ allTicks n c
+  all-idle e =
       ap (λ (l : List Fan). withFans l c)
-      (sym (map-still (repeated n ticked) (c .fans) noFan (λ i k. idle n (fanAt (c .fans) i) (none-busy (c .fans) 5 i e (omega arith)))))
+      (sym (moved-still (fanCount c) (repeated n ticked) (c .fans) noFan (λ i k l. idle n (fanAt (c .fans) i) (none-busy (c .fans) (fanCount c) i e k))))
 
   -- k of the quiet ticks
   after : (k : ℕ) → k ≤ quietTicks n (c .watch) → repeated k chipTicked c ≡ withWatch (watchOn k (c .watch)) (allTicks k c)
   unfolding repeated allTicked
   after zero h =
       let e : watchOn 0 (c .watch) ≡ c .watch = watch-on-none (c .watch) in
-      let f : map (repeated 0 ticked) (c .fans) ≡ c .fans = map-id (c .fans) in
+      let f : firstMoved (fanCount c) (repeated 0 ticked) (c .fans) ≡ c .fans = moved-still (fanCount c) (repeated 0 ticked) (c .fans) noFan (λ i k l. refl) in
       sym (ap (λ (w : Watch). withWatch w (allTicks 0 c)) e ∙ ap (λ (l : List Fan). withFans l c) f)
   after (suc k) h =
       let q = quiet-ticks n k (c .watch) h in
       let d : Chip = withWatch (watchOn k (c .watch)) (allTicks k c) in
-      ap chipTicked (after k (omega arith)) ∙ sym (tick-goes d (q .0)) ∙ rw (q .1, map-map ticked (repeated k ticked) (c .fans), add-one k)
+      ap chipTicked (after k (omega arith)) ∙ sym (tick-goes d (q .0)) ∙ rw (q .1, moved-moved (fanCount c) ticked (repeated k ticked) (c .fans), add-one k)
 
   -- n ticks where the first makes the watchdog fire
   pub fires-first : (d e : Chip) (w : Watch) → 1 ≤ n → fires (c .watch) ≡ true → e ≡ allFired c → w ≡ watchTicked (c .watch) → d ≡ withWatch w e

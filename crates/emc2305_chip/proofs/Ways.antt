@@ -11,10 +11,9 @@ use Rattle.emc2305_fan.specs.declared.Fan.{Fan}
 use Rattle.emc2305_fan.specs.Registers.{bit}
 use Rattle.emc2305_watchdog.specs.Watch.{fires, watchTicked}
 use Rattle.emc2305_chip.specs.declared.Chip.{Chip}
-use Rattle.emc2305_chip.specs.State.{withFans, withWatch}
-use Rattle.emc2305_chip.specs.Map.{registerOf}
+use Rattle.emc2305_chip.specs.State.{fanCount, withFans, withWatch}
 use Rattle.emc2305_chip.specs.Fans.{fanAt, interrupting}
-use Rattle.emc2305_chip.specs.Registers.{onFan, stallByte, spinByte, statusByte, alertLine, storesAt, storedOf, writtenAt}
+use Rattle.emc2305_chip.specs.Registers.{onFan, stallByte, spinByte, statusByte, alertLine, registerAt, storesAt, storedOf, writtenAt}
 use Rattle.emc2305_chip.specs.Ticks.{allFired, allTicked, chipTicked}
 
 -- a flag is at most its weight; and one that stands where a test fails
@@ -27,7 +26,7 @@ flag-not true w = refl
 flag-not false w = refl
 
 module _ (c : Chip) where
-  -- past the five fans there is none to change
+  -- past the five places there is no fan to change
   pub past-fans : (i : ℕ) (move : Fan → Fan) {k : ℕ} → k ≡ length (c .fans) → k ≡ 5 → 5 ≤ i → c ≡ onFan i move c
   past-fans i move e f h = ap (λ (l : List Fan). withFans l c) (sym (set-out (c .fans) i (move (fanAt (c .fans) i)) (omega arith)))
 
@@ -54,7 +53,7 @@ module _ (c : Chip) where
   unfolding alertLine
   alert-watch e h = rw (e, h)
 
-  pub alert-fans : bit 7 (c .configuration) ≡ false → c .expired ≡ false → interrupting (c .enable) (c .fans) 5 ≡ alertLine c
+  pub alert-fans : bit 7 (c .configuration) ≡ false → c .expired ≡ false → interrupting (c .enable) (c .fans) (fanCount c) ≡ alertLine c
   unfolding alertLine
   alert-fans e h = rw (e, h)
 
@@ -69,10 +68,10 @@ module _ (c : Chip) where
 
   -- a write
   module _ (address : ℕ) where
-    pub writes : (byte : ℕ) → storesAt c address ≡ true → storedOf (registerOf address) byte c ≡ writtenAt address byte c
+    pub writes : (byte : ℕ) → storesAt c address ≡ true → storedOf (registerAt c address) byte c ≡ writtenAt address byte c
     unfolding writtenAt
-    writes byte e = ap (λ (t : Bool). cond t (storedOf (registerOf address) byte c) c) (sym e)
+    writes byte e = ap (λ (t : Bool). cond t (storedOf (registerAt c address) byte c) c) (sym e)
 
     pub writes-nothing : (byte : ℕ) → storesAt c address ≡ false → c ≡ writtenAt address byte c
     unfolding writtenAt
-    writes-nothing byte e = ap (λ (t : Bool). cond t (storedOf (registerOf address) byte c) c) (sym e)
+    writes-nothing byte e = ap (λ (t : Bool). cond t (storedOf (registerAt c address) byte c) c) (sym e)

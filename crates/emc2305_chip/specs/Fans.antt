@@ -1,9 +1,10 @@
--- The five fans side by side: what happens to all of them, and their status bits.
+-- The fans side by side: what happens to them alike, and their status bits.
 use mathlib.Core.Bool.{Bool, false, cond, _&&_, _||_}
 use mathlib.Core.List.{List, []}
 use Prim.Native.Nat.{ℕ, zero, suc, _+_, _^_}
 use lib.ListN.{getD}
 use Rattle.laws.specs.Repeat.{repeated}
+use Rattle.emc2305_parts.specs.Parts.{resetOf}
 use Rattle.emc2305_fan.specs.declared.Bit.{Bit}
 use Rattle.emc2305_fan.specs.declared.Fan.{Fan}
 use Rattle.emc2305_fan.specs.Registers.{bit, noSpin, powerOn}
@@ -13,7 +14,7 @@ use Rattle.emc2305_fan.specs.Status.{standing, bitRead}
 use Rattle.emc2305_chip.specs.declared.Move.{Move}
 use Rattle.emc2305_chip.specs.declared.Move.the-variants.{PowerOn, Ticks, Watchdog, Read}
 
--- past the fifth fan there is none: an empty one stands for it
+-- past the five places there is no fan: an empty one stands for it
 abbrev pub noFan : Fan
 noFan = record { registers = []; drive = 0; wish = 0; clock = 0; spin = noSpin; stalled = false; failed = false }
 
@@ -21,9 +22,9 @@ noFan = record { registers = []; drive = 0; wish = 0; clock = 0; spin = noSpin; 
 abbrev pub fanAt : List Fan → ℕ → Fan
 fanAt fans i = getD fans i noFan
 
--- what happens to all five alike: power-on, n ticks, the watchdog's firing, a read of 25h or of 26h
+-- what happens to fans alike: power-on of their part, n ticks, the watchdog's firing, a read of 25h or of 26h
 abbrev pub moveOf : Move → Fan → Fan
-moveOf PowerOn f = powerOn
+moveOf (PowerOn part) f = powerOn (resetOf part .fan)
 moveOf (Ticks n) f = repeated n ticked f
 moveOf Watchdog f = fired f
 moveOf (Read which) f = bitRead which f

@@ -1,9 +1,13 @@
 -- The chip's registers: power-on, status, the alert line, what a read shows and clears, the lock, what a write stores.
 use mathlib.Core.Bool.{Bool, true, false, cond, not, _&&_, _||_}
-use mathlib.Core.List.{List, [], _∷_, map}
+use mathlib.Core.List.{[], _∷_}
 use Prim.Native.Nat.{ℕ, _+_}
 use lib.Dec.{eqb}
 use lib.ListN.{getD, set}
+use Rattle.laws.specs.Lists.{firstMoved}
+use Rattle.emc2305_parts.specs.declared.Part.{Part}
+use Rattle.emc2305_parts.specs.declared.Part.the-variants.{Emc2305}
+use Rattle.emc2305_parts.specs.Parts.{resetOf, identityOf}
 use Rattle.emc2305_fan.specs.declared.Bit.the-variants.{Stall, Spin}
 use Rattle.emc2305_fan.specs.declared.Fan.{Fan}
 use Rattle.emc2305_fan.specs.Registers.{bit, powerOn, shown, locked}
@@ -15,42 +19,44 @@ use Rattle.emc2305_chip.specs.declared.Own.{Own}
 use Rattle.emc2305_chip.specs.declared.Own.the-variants.{Configuration, Status, StallStatus, SpinStatus, DriveFailStatus, Enable, Output, Lock, Identity}
 use Rattle.emc2305_chip.specs.declared.Register.{Register}
 use Rattle.emc2305_chip.specs.declared.Register.the-variants.{OfFan, OfChip, Undefined}
-use Rattle.emc2305_chip.specs.State.{withFans, withConfiguration, withEnable, withOutputs, withLock, withExpired}
+use Rattle.emc2305_chip.specs.State.{fanCount, withFans, withConfiguration, withEnable, withOutputs, withLock, withExpired}
 use Rattle.emc2305_chip.specs.Map.{registerOf}
 use Rattle.emc2305_chip.specs.Fans.{fanAt, bitsOf, interrupting}
 use Rattle.emc2305_chip.specs.Watching.{programmedBy, configuredBy}
 
--- every default, unlocked; pointer and status 0; the power-up watch starts
-unfoldable pub atDefaults : Bool → ℕ → Chip
-atDefaults powered address =
+-- every default of the part, unlocked; pointer and status 0; the power-up watch starts. Absent fans have a power-on's state too.
+unfoldable pub atDefaults : Part → Bool → ℕ → Chip
+atDefaults part powered address =
+    let fan : Fan = powerOn (resetOf part .fan) in
     record {
       powered = powered;
       address = address;
-      fans = powerOn ∷ powerOn ∷ powerOn ∷ powerOn ∷ powerOn ∷ [];
-      configuration = 0x40;
-      enable = 0x00;
-      outputs = 0x00 ∷ 0x00 ∷ 0x00 ∷ 0x00 ∷ [];
-      lock = 0x00;
+      fans = fan ∷ fan ∷ fan ∷ fan ∷ fan ∷ [];
+      configuration = resetOf part .configuration;
+      enable = resetOf part .enable;
+      outputs = resetOf part .outputs;
+      lock = resetOf part .lock;
       pointer = 0;
       expired = false;
       watch = PowerUp 0;
+      part = part;
     }
 
--- the chip before any power-on
+-- the chip before any power-on has five fans
 abbrev pub unpowered : Chip
-unpowered = atDefaults false 0
+unpowered = atDefaults Emc2305 false 0
 
 -- one fan changed, the others as they were
 abbrev pub onFan : ℕ → (Fan → Fan) → Chip → Chip
 onFan i move c = withFans (set (c .fans) i (move (fanAt (c .fans) i))) c
 
--- 25h stall, bit i - 1 for fan i
+-- 25h stall, bit i - 1 for fan i; those of absent fans are 0
 abbrev pub stallByte : Chip → ℕ
-stallByte c = bitsOf Stall (c .fans) 5
+stallByte c = bitsOf Stall (c .fans) (fanCount c)
 
--- 26h spin, bit i - 1 for fan i
+-- 26h spin, bit i - 1 for fan i, likewise
 abbrev pub spinByte : Chip → ℕ
-spinByte c = bitsOf Spin (c .fans) 5
+spinByte c = bitsOf Spin (c .fans) (fanCount c)
 
 -- 24h: bit 7 WATCH, bit 1 any of 26h, bit 0 any of 25h
 abbrev pub statusByte : Chip → ℕ
@@ -58,11 +64,7 @@ statusByte c = cond (c .expired) 0x80 0 + (cond (eqb (spinByte c) 0) 0 0x02 + co
 
 -- the alert line is on when MASK is 0 and WATCH is set or a 25h or 26h bit stands whose fan's bit in 29h is 1
 unfoldable pub alertLine : Chip → Bool
-alertLine c = not (bit 7 (c .configuration)) && (c .expired || interrupting (c .enable) (c .fans) 5)
-
--- the identity bytes, from FCh on: product features, product, manufacturer, revision
-abbrev pub identity : List ℕ
-identity = 0x00 ∷ 0x34 ∷ 0x5D ∷ 0x80 ∷ []
+alertLine c = not (bit 7 (c .configuration)) && (c .expired || interrupting (c .enable) (c .fans) (fanCount c))
 
 -- what a read of one of the chip's own registers shows; 27h reads 00h
 abbrev pub ownShown : Chip → Own → ℕ
@@ -74,7 +76,7 @@ ownShown c DriveFailStatus = 0x00
 ownShown c Enable = c .enable
 ownShown c (Output i) = getD (c .outputs) i 0
 ownShown c Lock = c .lock
-ownShown c (Identity i) = getD identity i 0
+ownShown c (Identity i) = getD (identityOf (c .part)) i 0
 
 -- what a read shows; an undefined register reads 00h
 abbrev pub shownOf : Chip → Register → ℕ
@@ -98,8 +100,8 @@ clears (Identity i) = false
 abbrev pub ownCleared : Own → Chip → Chip
 ownCleared Configuration c = c
 ownCleared Status c = withExpired false c
-ownCleared StallStatus c = withFans (map (bitRead Stall) (c .fans)) c
-ownCleared SpinStatus c = withFans (map (bitRead Spin) (c .fans)) c
+ownCleared StallStatus c = withFans (firstMoved (fanCount c) (bitRead Stall) (c .fans)) c
+ownCleared SpinStatus c = withFans (firstMoved (fanCount c) (bitRead Spin) (c .fans)) c
 ownCleared DriveFailStatus c = c
 ownCleared Enable c = c
 ownCleared (Output i) c = c
@@ -182,18 +184,22 @@ storedOf (OfFan i offset) byte c = fanStored i offset byte c
 storedOf (OfChip own) byte c = ownStored own byte c
 storedOf Undefined byte c = c
 
+-- what stands at an address of the chip
+abbrev pub registerAt : Chip → ℕ → Register
+registerAt c address = registerOf (fanCount c) address
+
 -- what a read of an address shows
 unfoldable pub shownAt : Chip → ℕ → ℕ
-shownAt c address = shownOf c (registerOf address)
+shownAt c address = shownOf c (registerAt c address)
 
 -- the chip that a read of an address leaves
 unfoldable pub clearedAt : ℕ → Chip → Chip
-clearedAt address c = clearedOf (registerOf address) c
+clearedAt address c = clearedOf (registerAt c address) c
 
 -- whether a write to an address is stored
 unfoldable pub storesAt : Chip → ℕ → Bool
-storesAt c address = storesIn c (registerOf address)
+storesAt c address = storesIn c (registerAt c address)
 
 -- a write to an address; one that is not stored changes nothing here
 unfoldable pub writtenAt : ℕ → ℕ → Chip → Chip
-writtenAt address byte c = cond (storesAt c address) (storedOf (registerOf address) byte c) c
+writtenAt address byte c = cond (storesAt c address) (storedOf (registerAt c address) byte c) c

@@ -1,10 +1,15 @@
--- A chip with one part changed and all else as it was.
+-- How many fans a chip has; and a chip with one field changed, all else as it was.
 use mathlib.Core.Bool.{Bool}
 use mathlib.Core.List.{List}
 use Prim.Native.Nat.{ℕ}
+use Rattle.emc2305_parts.specs.Parts.{fansOf}
 use Rattle.emc2305_fan.specs.declared.Fan.{Fan}
 use Rattle.emc2305_watchdog.specs.declared.Watch.{Watch}
 use Rattle.emc2305_chip.specs.declared.Chip.{Chip}
+
+-- how many fans the chip has: 1, 2, 3 or 5, by its part; of its five places the first so many are theirs, and fans past them are absent
+abbrev pub fanCount : Chip → ℕ
+fanCount c = fansOf (c .part)
 
 -- with other fans
 abbrev pub withFans : List Fan → Chip → Chip
@@ -20,6 +25,7 @@ withFans x c =
       pointer = c .pointer;
       expired = c .expired;
       watch = c .watch;
+      part = c .part;
     }
 
 -- with another byte in 20h
@@ -36,6 +42,7 @@ withConfiguration x c =
       pointer = c .pointer;
       expired = c .expired;
       watch = c .watch;
+      part = c .part;
     }
 
 -- with another byte in 29h
@@ -52,6 +59,7 @@ withEnable x c =
       pointer = c .pointer;
       expired = c .expired;
       watch = c .watch;
+      part = c .part;
     }
 
 -- with other bytes in 2Ah to 2Dh
@@ -68,6 +76,7 @@ withOutputs x c =
       pointer = c .pointer;
       expired = c .expired;
       watch = c .watch;
+      part = c .part;
     }
 
 -- with another byte in EFh
@@ -84,6 +93,7 @@ withLock x c =
       pointer = c .pointer;
       expired = c .expired;
       watch = c .watch;
+      part = c .part;
     }
 
 -- with another pointer
@@ -100,6 +110,7 @@ withPointer x c =
       pointer = x;
       expired = c .expired;
       watch = c .watch;
+      part = c .part;
     }
 
 -- with another WATCH
@@ -116,6 +127,7 @@ withExpired x c =
       pointer = c .pointer;
       expired = x;
       watch = c .watch;
+      part = c .part;
     }
 
 -- with another watch
@@ -132,4 +144,5 @@ withWatch x c =
       pointer = c .pointer;
       expired = c .expired;
       watch = x;
+      part = c .part;
     }

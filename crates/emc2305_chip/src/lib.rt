@@ -1,4 +1,4 @@
-// The chip's registers and ticks: five fans side by side, register map, lock, status, alert line, watchdog (document 01: 'Registers' and 'Tach and watchdog').
+// The chip's registers and ticks: a part with one, two, three or five fans side by side, register map, lock, status, alert line, watchdog (document 01: 'Registers' and 'Tach and watchdog').
 mod fans;
 mod map;
 mod one_fan;
@@ -9,6 +9,7 @@ mod watching;
 
 use emc2305_fan::Bit;
 use emc2305_fan::Fan;
+use emc2305_parts::Part;
 use emc2305_watchdog::Watch;
 pub use map::register_of;
 pub use registers::is_cleared;
@@ -17,12 +18,12 @@ ghost use mathlib.Core.Path.{_≡_};
 ghost use mathlib.Core.Bool.{true};
 ghost use Prim.Native.Nat.{_<_};
 ghost use lib.ListN.{set};
-ghost use Rattle.emc2305_chip.specs.State.{withFans};
+ghost use Rattle.emc2305_chip.specs.State.{fanCount, withFans};
 ghost use Rattle.emc2305_chip.specs.Fans.{fanAt};
 ghost use Rattle.emc2305_chip.specs.Registers.{atDefaults, unpowered};
 
-// How many fans the chip has.
-const FANS: usize = 5;
+// How many fans the chip has place for.
+const PLACES: usize = 5;
 
 // The chip.
 pub struct Chip {
@@ -42,6 +43,8 @@ pub struct Chip {
     // The bit WATCH of 24h.
     pub expired: bool,
     pub watch: Watch,
+    // By which it has the first one, two, three or all of the fans; the others keep what power-on gave them, and nothing shows it.
+    pub part: Part,
 }
 
 // What stands at a register address.
@@ -67,9 +70,9 @@ pub enum Own {
     Identity(usize),
 }
 
-// What happens to all five fans alike.
+// What happens to fans alike.
 pub enum Move {
-    PowerOn,
+    PowerOn(Part),
     Ticks(u16),
     Watchdog,
     // A read of 25h or of 26h.
@@ -77,39 +80,50 @@ pub enum Move {
 }
 
 impl Chip {
-    // The chip before any power-on.
+    // The chip before any power-on, which has five fans.
     pub fn unpowered() -> Chip
         ensures { λ r. ⌜ r ≡ unpowered ⌝ }
     {
-        Chip::at_defaults(false, 0)
+        Chip::at_defaults(Part::Emc2305, false, 0)
     }
 
-    // Power-on, at a bus address.
-    pub fn power_on(address: u8) -> Chip
-        ensures { λ r. ⌜ r ≡ atDefaults true address ⌝ }
+    // Power-on of a part, at a bus address.
+    pub fn power_on(part: Part, address: u8) -> Chip
+        ensures { λ r. ⌜ r ≡ atDefaults part true address ⌝ }
     {
-        Chip::at_defaults(true, address)
+        Chip::at_defaults(part, true, address)
     }
 
     // Every default, unlocked; the power-up watch starts.
-    fn at_defaults(powered: bool, address: u8) -> Chip
-        ensures { λ r. ⌜ r ≡ atDefaults powered address ⌝ }
+    fn at_defaults(part: Part, powered: bool, address: u8) -> Chip
+        ensures { λ r. ⌜ r ≡ atDefaults part powered address ⌝ }
     {
-        let fan = Fan::power_on();
+        let reset = part.reset();
+        let outputs = reset.outputs;
+        let fan = fans::powered_on(part);
         // From `each`, so that the compiler does not spread the defaults' bytes over every step.
-        let fans = fans::each([fan; 5], Move::PowerOn);
+        let fans = fans::each([fan; 5], PLACES, Move::PowerOn(part));
         Chip {
             powered,
             address,
             fans,
-            configuration: 0x40,
-            enable: 0x00,
-            outputs: [0x00; 4],
-            lock: 0x00,
+            configuration: reset.configuration,
+            enable: reset.enable,
+            outputs,
+            lock: reset.lock,
             pointer: 0,
             expired: false,
             watch: Watch::PowerUp(0),
+            part,
         }
+    }
+
+    // How many fans it has.
+    pub fn fan_count(self) -> usize
+        ensures { λ r. ⌜ r ≡ fanCount self ⌝ }
+    {
+        let part = self.part;
+        part.fans()
     }
 
     // The chip with other fans.

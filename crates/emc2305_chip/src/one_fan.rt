@@ -1,6 +1,6 @@
 // What an event does to one fan.
 use crate::Chip;
-use crate::FANS;
+use crate::PLACES;
 ghost use mathlib.Core.Path.{_≡_};
 ghost use Rattle.emc2305_fan.specs.Drive.{wished};
 ghost use Rattle.emc2305_fan.specs.Tach.{sampled};
@@ -8,11 +8,11 @@ ghost use Rattle.emc2305_watchdog.specs.Watch.{inPowerUp};
 ghost use Rattle.emc2305_chip.specs.Registers.{onFan};
 
 impl Chip {
-    // A tach sample of fan i + 1. There are five: past them it does nothing.
+    // A tach sample of fan i + 1. There is place for five: past them it does nothing.
     pub fn sample(self, i: usize, count: u16) -> Chip
         ensures { λ r. ⌜ r ≡ onFan i (sampled count (inPowerUp (self .watch))) self ⌝ }
     {
-        if i < FANS {
+        if i < PLACES {
             let watch = self.watch;
             self.with_fan(i, self.fan(i).sample(count, watch.in_power_up()))
         } else {
@@ -24,7 +24,7 @@ impl Chip {
     pub fn wish(self, i: usize, drive: u8) -> Chip
         ensures { λ r. ⌜ r ≡ onFan i (wished drive) self ⌝ }
     {
-        if i < FANS {
+        if i < PLACES {
             self.with_fan(i, self.fan(i).wish(drive))
         } else {
             self

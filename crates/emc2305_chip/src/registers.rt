@@ -7,14 +7,12 @@ use crate::fans;
 use crate::map;
 use emc2305_fan::Bit;
 ghost use mathlib.Core.Path.{_≡_};
-ghost use mathlib.Core.List.{map};
 ghost use lib.ListN.{getD, set};
 ghost use Rattle.emc2305_fan.specs.Status.{bitRead};
-ghost use Rattle.emc2305_chip.specs.State.{withFans, withOutputs};
-ghost use Rattle.emc2305_chip.specs.Registers.{identity, ownShown, clears, ownCleared, isLocked, ownGuarded, writable, ownStores, ownStored, ownWritten, shownAt};
-
-// The identity bytes, from FCh on: product features, product, manufacturer, revision.
-const IDENTITY: [u8; 4] = [0x00, 0x34, 0x5D, 0x80];
+ghost use Rattle.emc2305_parts.specs.Parts.{identityOf};
+ghost use Rattle.laws.specs.Lists.{firstMoved};
+ghost use Rattle.emc2305_chip.specs.State.{fanCount, withFans, withOutputs};
+ghost use Rattle.emc2305_chip.specs.Registers.{ownShown, clears, ownCleared, isLocked, ownGuarded, writable, ownStores, ownStored, ownWritten, shownAt};
 
 // The weight of bit 0 of EFh.
 const LOCKED: u8 = 0x01;
@@ -24,7 +22,7 @@ impl Chip {
     pub fn register(self, address: u8) -> u8
         ensures { λ r. ⌜ r ≡ shownAt self address ⌝ }
     {
-        match map::register_of(address) {
+        match map::register_of(self.fan_count(), address) {
             Register::OfFan(i, offset) => self.fan(i).register(offset),
             Register::OfChip(own) => self.own_register(own),
             Register::Undefined => 0x00,
@@ -44,7 +42,7 @@ impl Chip {
             Own::Enable => self.enable,
             Own::Output(i) => self.output(i),
             Own::Lock => self.lock,
-            Own::Identity(i) => identity(i),
+            Own::Identity(i) => self.identity(i),
         }
     }
 
@@ -117,15 +115,23 @@ impl Chip {
         }
     }
 
-    // A read of 25h or of 26h, fan by fan; mostly no bit stands.
+    // A read of 25h or of 26h, fan by fan.
     fn bits_read(self, bit: Bit) -> Chip
-        ensures { λ r. ⌜ r ≡ withFans (map (bitRead bit) (self .fans)) self ⌝ }
+        ensures { λ r. ⌜ r ≡ withFans (firstMoved (fanCount self) (bitRead bit) (self .fans)) self ⌝ }
     {
         let all = self.fans;
-        if fans::bits_of(all, bit) == 0 {
-            self
-        } else {
-            self.with_fans(fans::each(all, Move::Read(bit)))
+        self.with_fans(fans::each(all, self.fan_count(), Move::Read(bit)))
+    }
+
+    // FCh to FFh, by the place from FCh on.
+    fn identity(self, i: usize) -> u8
+        ensures { λ r. ⌜ r ≡ getD (identityOf (self .part)) i 0 ⌝ }
+    {
+        let part = self.part;
+        let identity = part.identity();
+        match i {
+            0..=3 => identity[i],
+            _ => 0x00,
         }
     }
 
@@ -150,16 +156,6 @@ impl Chip {
         }
         self.outputs = outputs;
         self
-    }
-}
-
-// FCh to FFh, by the place from FCh on.
-fn identity(i: usize) -> u8
-    ensures { λ r. ⌜ r ≡ getD identity i 0 ⌝ }
-{
-    match i {
-        0..=3 => IDENTITY[i],
-        _ => 0x00,
     }
 }
 

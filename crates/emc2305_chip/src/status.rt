@@ -21,7 +21,7 @@ impl Chip {
         ensures { λ r. ⌜ r ≡ stallByte self ⌝ }
     {
         let all = self.fans;
-        fans::bits_of(all, Bit::Stall)
+        fans::bits_of(all, self.fan_count(), Bit::Stall)
     }
 
     // The byte of 26h.
@@ -29,7 +29,7 @@ impl Chip {
         ensures { λ r. ⌜ r ≡ spinByte self ⌝ }
     {
         let all = self.fans;
-        fans::bits_of(all, Bit::Spin)
+        fans::bits_of(all, self.fan_count(), Bit::Spin)
     }
 
     // 24h: WATCH, any of 26h, any of 25h.
@@ -52,7 +52,7 @@ impl Chip {
             return true;
         }
         let all = self.fans;
-        fans::interrupting(all, self.enable)
+        fans::interrupting(all, self.fan_count(), self.enable)
     }
 }
 

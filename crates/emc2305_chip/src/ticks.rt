@@ -34,7 +34,7 @@ impl Chip {
     {
         let all = self.fans;
         self.expired = true;
-        self.with_fans(fans::each(all, Move::Watchdog))
+        self.with_fans(fans::each(all, self.fan_count(), Move::Watchdog))
     }
 
     // Each fan takes so many ticks of its own; where none has anything to do, nothing changes.
@@ -42,8 +42,9 @@ impl Chip {
         ensures { λ r. ⌜ r ≡ allTicks count self ⌝ }
     {
         let all = self.fans;
-        if fans::any_busy(all) {
-            self.with_fans(fans::each(all, Move::Ticks(count)))
+        let n = self.fan_count();
+        if fans::any_busy(all, n) {
+            self.with_fans(fans::each(all, n, Move::Ticks(count)))
         } else {
             self
         }

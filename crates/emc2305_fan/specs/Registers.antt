@@ -1,11 +1,11 @@
 -- A fan's registers, by offset.
+use mathlib.Core.List.{List}
 use Prim.Native.Nat.{ℕ, _/_, _%_, _^_}
 use mathlib.Core.Bool.{Bool, false, cond, not, _&&_, _||_}
 use lib.Dec.{leb, eqb}
 use lib.ListN.{getD}
 use Rattle.emc2305_fan.specs.declared.Fan.{Fan}
 use Rattle.emc2305_fan.specs.declared.SpinUp.{SpinUp}
-use Rattle.emc2305_fan.specs.Tables.{defaults}
 
 -- bit k of a byte is 1
 abbrev pub bit : ℕ → ℕ → Bool
@@ -79,6 +79,6 @@ stores f offset = writable offset && not (eqb offset 0x0 && closedLoop f)
 abbrev pub noSpin : SpinUp
 noSpin = record { running = false; ticks = 0; length = 0; kick = false; level = 0 }
 
--- power-on sets every default; status, drive, wish and update clock are 0, no spin-up
-unfoldable pub powerOn : Fan
-powerOn = record { registers = defaults; drive = 0; wish = 0; clock = 0; spin = noSpin; stalled = false; failed = false }
+-- power-on sets every default, which are the part's; status, drive, wish and update clock are 0, no spin-up
+unfoldable pub powerOn : List ℕ → Fan
+powerOn defaults = record { registers = defaults; drive = 0; wish = 0; clock = 0; spin = noSpin; stalled = false; failed = false }

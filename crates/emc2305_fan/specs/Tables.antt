@@ -13,8 +13,3 @@ lengths = 20 ∷ 40 ∷ 80 ∷ 160 ∷ []
 -- spin-up levels, by Spin Up bits 2..4
 abbrev pub levels : List ℕ
 levels = 76 ∷ 89 ∷ 102 ∷ 114 ∷ 127 ∷ 140 ∷ 153 ∷ 165 ∷ []
-
--- a fan's registers at power-on, by offset; what stands at the undefined offset 4 is never shown
-abbrev pub defaults : List ℕ
-defaults =
-    0x00 ∷ 0x01 ∷ 0x2B ∷ 0x28 ∷ 0x00 ∷ 0x2A ∷ 0x19 ∷ 0x10 ∷ 0x66 ∷ 0xF5 ∷ 0x00 ∷ 0x00 ∷ 0xF8 ∷ 0xFF ∷ 0xFF ∷ 0xF8 ∷ []

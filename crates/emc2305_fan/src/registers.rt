@@ -4,17 +4,16 @@ use crate::Fan;
 use crate::LOOP;
 use crate::SETTING;
 use crate::SpinUp;
-use crate::tables;
 ghost use mathlib.Core.Path.{_≡_};
 ghost use Rattle.emc2305_fan.specs.Registers.{powerOn, noSpin, shown, stores, locked, closedLoop};
 
 impl Fan {
-    // Power-on: every default, and nothing running.
-    pub fn power_on() -> Fan
-        ensures { λ r. ⌜ r ≡ powerOn ⌝ }
+    // Power-on: the part's reset bytes, and nothing running.
+    pub fn power_on(registers: [u8; 16]) -> Fan
+        ensures { λ r. ⌜ r ≡ powerOn registers ⌝ }
     {
         Fan {
-            registers: tables::DEFAULTS,
+            registers,
             drive: 0,
             wish: 0,
             clock: 0,

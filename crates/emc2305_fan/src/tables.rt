@@ -13,26 +13,6 @@ const LENGTHS: [u8; 4] = [20, 40, 80, 160];
 // Spin-up levels, by Spin Up bits 2..4.
 const LEVELS: [u8; 8] = [76, 89, 102, 114, 127, 140, 153, 165];
 
-// A fan's registers at power-on, by offset.
-pub(crate) const DEFAULTS: [u8; 16] = [
-    0x00,
-    0x01,
-    0x2B,
-    0x28,
-    0x00,
-    0x2A,
-    0x19,
-    0x10,
-    0x66,
-    0xF5,
-    0x00,
-    0x00,
-    0xF8,
-    0xFF,
-    0xFF,
-    0xF8,
-];
-
 // The update period that a Configuration 1 byte asks for.
 pub(crate) fn period_of(byte: u8) -> u8
     ensures { λ r. ⌜ r ≡ getD periods (byte % 8) 0 ⌝ }

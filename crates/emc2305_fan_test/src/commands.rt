@@ -5,6 +5,7 @@ use emc2305_fan::Bit;
 use emc2305_fan::Fan;
 use emc2305_fan::SpinUp;
 use emc2305_fan::Written;
+use emc2305_parts::Part;
 
 // The largest usize.
 const LARGEST: usize = 18446744073709551615;
@@ -61,8 +62,16 @@ fn offset(code: u8) -> usize {
     }
 }
 
+// A fan of the five-fan part at power-on.
+pub fn fresh() -> Fan {
+    let part = Part::Emc2305;
+    let reset = part.reset();
+    let registers = reset.fan;
+    Fan::power_on(registers)
+}
+
 fn power_on() -> Fan {
-    let fan = Fan::power_on();
+    let fan = fresh();
     show::text(b"reset");
     show::state(fan);
     fan

@@ -3,7 +3,6 @@
 mod commands;
 mod show;
 
-use emc2305_fan::Fan;
 use libc::STDIN_FILENO;
 
 // The most bytes of input that are read.
@@ -17,7 +16,7 @@ fn main() {
 
 // A command is a byte that says which, a byte n, and n bytes. Each acts on the fan that the one before it left.
 fn run(input: &[u8]) {
-    let mut fan = Fan::power_on();
+    let mut fan = commands::fresh();
     let mut at = 0;
     for _ in 0..input.len() {
         if input.len() - at < 2 {

@@ -15,7 +15,7 @@ use Rattle.eventlog.specs.Numbers.{walksOn}
 use Rattle.emc2305_chip.specs.declared.Chip.{Chip}
 use Rattle.emc2305_chip.specs.Watching.{fedChip}
 use Rattle.emc2305.specs.declared.Answer.{Answer}
-use Rattle.emc2305.specs.Step.{beforePower, elsewhere, stepNumber, replyTo, stepped, replyAfter}
+use Rattle.emc2305.specs.Step.{beforePower, absent, elsewhere, stepNumber, replyTo, stepped, replyAfter}
 use Rattle.emc2305.proofs.Numbers.{step-numbers, numbered, refused, taken-step}
 use Rattle.emc2305.proofs.SameSteps.{same-events}
 use Rattle.emc2305.proofs.Turns.{reply-length}
@@ -26,7 +26,7 @@ use Rattle.emc2305_run.specs.Device.{emc2305}
 refusal-keeps : RefusalKeeps emc2305
 unfolding stepped
 refusal-keeps c log event room z =
-    let n = stepNumber (c .powered) (c .address) log event room in
+    let n = stepNumber (c .part) (c .powered) (c .address) log event room in
     let f : eqb n 0 ≡ false = ne-eqb n 0 (λ e. z (rw (numbered c log event room) e)) in
     (rw f, rw (f, f))
 
@@ -36,30 +36,33 @@ reply-fits c log event room z =
     let k = replyLength log event in
     let l : length (replyTo log event c) ≡ k = reply-length k (fedChip c) k in
     let t : eqb (stepped c log event room .number) 0 ≡ true = eq-eqb (stepped c log event room .number) 0 z in
-    (rw t l, step-numbers (c .powered) (c .address) log event room .4 .0 (sym (numbered c log event room) ∙ z) .3)
+    (rw t l, step-numbers (c .part) (c .powered) (c .address) log event room .5 .0 (sym (numbered c log event room) ∙ z) .4)
 
 walks-or-no-room : WalksOrNoRoom emc2305
 walks-or-no-room c log event room good =
     let n = numbered c log event room in
-    let numbers = step-numbers (c .powered) (c .address) log event room in
+    let numbers = step-numbers (c .part) (c .powered) (c .address) log event room in
     by-test (beforePower (c .powered) event) (λ b. inl (rw (n, numbers .1 .1 (good, b))))
     (λ b.
-    by-test (elsewhere (c .address) event) (λ e. inl (rw (n, numbers .2 .1 (good, b, e))))
+    by-test (absent (c .part) event) (λ a. inl (rw (n, numbers .2 .1 (good, b, a))))
+    (λ a.
+    by-test (elsewhere (c .address) event) (λ e. inl (rw (n, numbers .3 .1 (good, b, a, e))))
     (λ e.
     by-test (ltb room (replyLength log event))
-    (λ s. let short = ltb-true room (replyLength log event) s in inr (n ∙ numbers .3 .1 (good, b, e, short), short))
-    (λ s. inl (rw (n, numbers .4 .1 (good, b, e, ltb-false room (replyLength log event) s))))))
+    (λ s. let short = ltb-true room (replyLength log event) s in inr (n ∙ numbers .4 .1 (good, b, a, e, short), short))
+    (λ s. inl (rw (n, numbers .5 .1 (good, b, a, e, ltb-false room (replyLength log event) s)))))))
 
 -- more room changes no number after which a run walks on
 same-number : (c : Chip) (log : List ℕ) (event : Event) (near far : ℕ) → near ≤ far → walksOn (stepped c log event near .number) ≡ true
-    → stepNumber (c .powered) (c .address) log event far ≡ stepNumber (c .powered) (c .address) log event near
+    → stepNumber (c .part) (c .powered) (c .address) log event far ≡ stepNumber (c .part) (c .powered) (c .address) log event near
 same-number c log event near far h a =
     let n = numbered c log event near in
-    let here = step-numbers (c .powered) (c .address) log event near in
-    let there = step-numbers (c .powered) (c .address) log event far in
+    let here = step-numbers (c .part) (c .powered) (c .address) log event near in
+    let there = step-numbers (c .part) (c .powered) (c .address) log event far in
     by-walks-on (stepped c log event near .number) a
-    (λ e. let t = here .4 .0 (sym n ∙ e) in there .4 .1 (t .0, t .1, t .2, omega (arith, t .3)) ∙ sym e ∙ n)
-    (λ e. there .1 .1 (here .1 .0 (sym n ∙ e)) ∙ sym e ∙ n) (λ e. there .2 .1 (here .2 .0 (sym n ∙ e)) ∙ sym e ∙ n)
+    (λ e. let t = here .5 .0 (sym n ∙ e) in there .5 .1 (t .0, t .1, t .2, t .3, omega (arith, t .4)) ∙ sym e ∙ n)
+    (λ e. there .1 .1 (here .1 .0 (sym n ∙ e)) ∙ sym e ∙ n) (λ e. there .3 .1 (here .3 .0 (sym n ∙ e)) ∙ sym e ∙ n)
+    (λ e. there .2 .1 (here .2 .0 (sym n ∙ e)) ∙ sym e ∙ n)
 
 room-aside : RoomAside emc2305
 unfolding stepped

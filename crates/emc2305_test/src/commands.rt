@@ -41,6 +41,7 @@ pub fn act(bench: Bench, which: u8, data: &[u8]) -> Bench {
         b'S' => happen(bench, sample(data), data),
         b'W' => happen(bench, wish(data), data),
         b'X' => transfer(bench, data),
+        b'Q' => happen(bench, part(data), data),
         b'N' => fresh(bench.room),
         b'B' => lend(bench.chip, wide(field(data, 0))),
         b'V' => watch(bench, field(data, 0), word(field(data, 1), field(data, 2))),
@@ -88,6 +89,13 @@ fn wish(data: &[u8]) -> Event {
     Event::Wish {
         fan: field(data, 0),
         drive: field(data, 1),
+    }
+}
+
+fn part(data: &[u8]) -> Event {
+    Event::PowerOnPart {
+        address: field(data, 0),
+        fans: field(data, 1),
     }
 }
 
@@ -148,9 +156,12 @@ fn watch(bench: Bench, kind: u8, count: u16) -> Bench {
         2 => Watch::Continuous(count),
         _ => Watch::Off,
     };
+    let before = bench.chip;
+    let part = before.part;
     let chip = Chip {
         watch,
-        ..bench.chip
+        part,
+        ..before
     };
     show::text(b"watch");
     show::state(chip);

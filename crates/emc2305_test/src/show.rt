@@ -63,6 +63,7 @@ pub fn event(event: Event, log: &[u8]) {
             text(b" ");
             hexes(log);
         }
+        Event::PowerOnPart { address, fans } => pair(b"part-on ", address, fans as u16),
     }
 }
 

@@ -11,8 +11,8 @@ Inv-loop input fan₀ at₀ counter₀ end fan at counter = (at ≤ length input
 abbrev μ-loop : tie.MeasureT-loop
 μ-loop input fan₀ at₀ counter₀ end fan at counter = end - counter
 
-power-on-requires : tie.Need-power-on-requires Inv-loop μ-loop
-power-on-requires c κs = search needs
+fresh-requires : tie.Need-fresh-requires Inv-loop μ-loop
+fresh-requires c κs = search needs
 
 loop-holds : tie.Need-loop-holds Inv-loop μ-loop
 loop-holds c = search needs
@@ -80,7 +80,7 @@ run-spec =
     (tie.spec
     Inv-loop
     μ-loop
-    power-on-requires
+    fresh-requires
     loop-holds
     sub-if1
     returns

@@ -75,6 +75,15 @@ part-sent-end c =
 sent-requires : tie.Need-sent-requires
 sent-requires c κs = search needs
 
+enum-known-event-6 : tie.Need-enum-known-event-6
+enum-known-event-6 c = search needs
+
+with-fans-requires : tie.Need-with-fans-requires
+with-fans-requires c κs = search needs
+
+power-on-requires-2 : tie.Need-power-on-requires-2
+power-on-requires-2 c κs = search needs
+
 returns : tie.Need-returns
 unfolding taken
 returns c =
@@ -133,6 +142,14 @@ returns-6 c =
       no-reply (a .log .now) (a .event) (a .chip) (a .reply .now) (rw (b5 .event5 .given .1, b3 .if1 .left) refl),
     )
 
+returns-7 : tie.Need-returns-7
+unfolding taken
+returns-7 c =
+    let a = c .before .before .before .before .before .before .before .args in (
+      rw (c .before .before .before .event6 .given .1, ← c .before .with-fans .ensures) (c .power-on2 .ensures),
+      no-reply (a .log .now) (a .event) (a .chip) (a .reply .now) (rw (c .before .before .before .event6 .given .1) refl),
+    )
+
 pub taken-spec : {M : Type 1} → statement M
 taken-spec =
     tie.close
@@ -158,10 +175,14 @@ taken-spec =
     part-sent-start
     part-sent-end
     sent-requires
+    enum-known-event-6
+    with-fans-requires
+    power-on-requires-2
     returns
     returns-2
     returns-3
     returns-4
     same-length
     returns-5
-    returns-6)
+    returns-6
+    returns-7)

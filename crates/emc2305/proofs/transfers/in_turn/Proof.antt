@@ -7,6 +7,9 @@ use lib.ListN.{length, getD, drop, length-set, length-map, length-drop}
 use borrow.Author.Needs.{needs}
 use Rattle.laws.proofs.Buffer.{lent-is}
 use Rattle.emc2305_chip.specs.declared.Register.the-variants.{OfFan}
+use Rattle.emc2305_chip.specs.State.{fanCount}
+use Rattle.emc2305_chip.specs.Map.{registerOf}
+use Rattle.emc2305_chip.specs.Registers.{registerAt}
 use Rattle.emc2305_chip.proofs.Maps.{Placed, found-at}
 use Rattle.emc2305.specs.Transfers.{pointerPast, pointerAfter, inTurn}
 use Rattle.emc2305.proofs.Turns.{turn-next, turn-over}
@@ -26,6 +29,9 @@ loop-holds c =
     let s = c .before .before in
     (search needs, sym (length-map (s .args .chip .fans) _) ∙ s .good .0 .1 .1 .1 .1 .0 .1 .0 .1, refl)
 
+fan-count-requires : tie.Need-fan-count-requires Inv-loop μ-loop
+fan-count-requires c κs = search needs
+
 register-of-requires : tie.Need-register-of-requires Inv-loop μ-loop
 register-of-requires c κs = search needs
 
@@ -35,8 +41,8 @@ enum-known-at c = search needs
 -- the fan and the offset at the pointer
 on-fan : (c : tie.After-known-told Inv-loop μ-loop)
     → (let at = c .before .at .given .0 in
-    Placed (c .before .before .before .before .before .loop .pointer) (OfFan (at .0) (at .1 .0)))
-on-fan c = found-at _ _ _ (c .before .before .before .register-of .ensures) (c .before .at .given .1)
+    Placed (fanCount (c .before .before .before .before .before .before .loop .chip)) (c .before .before .before .before .before .before .loop .pointer) (OfFan (at .0) (at .1 .0)))
+on-fan c = found-at _ _ _ _ (c .before .before .before .register-of .ensures ∙ rw (c .before .before .before .before .fan-count .ensures)) (c .before .at .given .1)
 
 mul-fan : tie.Need-mul-fan Inv-loop μ-loop
 mul-fan c = let at = on-fan c in omega (arith, at .0)
@@ -85,17 +91,17 @@ enum-told c = search needs
 
 -- how many bytes were taken
 counted : (c : tie.At-match-came Inv-loop μ-loop)
-    → (1 ≤ c .match .count) × (c .match .count ≤ 16) × (c .match .count ≤ length (c .before .before .before .before .before .before .args .bytes .now) - c .before .before .before .loop .i)
+    → (1 ≤ c .match .count) × (c .match .count ≤ 16) × (c .match .count ≤ length (c .before .before .before .before .before .before .before .args .bytes .now) - c .before .before .before .before .loop .i)
 counted c =
-    let bytes = c .before .before .before .before .before .before .args .bytes .now in
-    let l = c .before .before .before .loop in
+    let bytes = c .before .before .before .before .before .before .before .args .bytes .now in
+    let l = c .before .before .before .before .loop in
     let left = length-drop (l .i) bytes in
     let same = ap length (lent-is (l .i) bytes) in
     ⊎-elim
-    (λ w. let p = found-at _ _ _ (c .before .register-of .ensures) (w .1 .given .1) in let e = w .12 ∙ w .6 .ensures .1 .1 in (omega (arith, p .1, e, left, same), omega (arith, e), omega (arith, e, left, same)))
+    (λ w. let p = found-at _ _ _ _ (c .before .register-of .ensures) (w .1 .given .1) in let e = w .12 ∙ w .6 .ensures .1 .1 in (omega (arith, p .1, e, left, same), omega (arith, e), omega (arith, e, left, same)))
     (λ v.
     ⊎-elim
-    (λ w. let p = found-at _ _ _ (c .before .register-of .ensures) (w .1 .given .1) in let e = w .11 ∙ w .6 .ensures .1 .1 in (omega (arith, p .1, e, left, same), omega (arith, e), omega (arith, e, left, same)))
+    (λ w. let p = found-at _ _ _ _ (c .before .register-of .ensures) (w .1 .given .1) in let e = w .11 ∙ w .6 .ensures .1 .1 in (omega (arith, p .1, e, left, same), omega (arith, e), omega (arith, e, left, same)))
     (λ v.
     ⊎-elim (λ w. let e = w .9 in (omega (arith, e), omega (arith, e), omega (arith, e)))
     (λ v.
@@ -116,32 +122,33 @@ loop-less c = let n = counted (c .before .before) in omega (arith, n)
 
 -- the bytes were written as they should be
 wrote : (c : tie.At-match-came Inv-loop μ-loop)
-    → (let l = c .before .before .before .loop in
-    let bytes = c .before .before .before .before .before .before .args .bytes .now in
+    → (let l = c .before .before .before .before .loop in
+    let bytes = c .before .before .before .before .before .before .before .args .bytes .now in
     let m = c .match in
     (length (m .fans) ≡ 5)
     × (inTurn (length bytes) (drop (l .i + m .count) bytes) (held (pointerAfter (length bytes) (m .count) (l .pointer)) (m .fans) (m .chip))
     ≡ inTurn (length bytes) (drop (l .i) bytes) (held (l .pointer) (l .fans) (l .chip))))
 unfolding pointerPast
 wrote c =
-    let l = c .before .before .before .loop in
-    let bytes = c .before .before .before .before .before .before .args .bytes .now in
+    let l = c .before .before .before .before .loop in
+    let bytes = c .before .before .before .before .before .before .before .args .bytes .now in
     let n = length bytes in
     let byte = getD bytes (l .i) 0 in
     let p = l .pointer in
     let five = l .inv .1 in
-    let found = c .before .register-of .ensures in
+    let found : c .before .register-of .result ≡ registerAt (l .chip) p =
+    c .before .register-of .ensures ∙ ap (λ (k : ℕ). registerOf k p) (c .before .before .fan-count .ensures) in
     ⊎-elim
     (λ w.
-    let at = found-at p _ _ found (w .1 .given .1) in
-    let row = row-turn n _ _ (l .i) p bytes _ (l .fans) (l .chip) _ _ _ _ (at .0) (omega (arith, at .0, five)) (at .1) (at .2) refl (lent-is (l .i) bytes) (w .5 .ensures)
+    let at = found-at _ p _ _ found (w .1 .given .1) in
+    let row = row-turn n _ _ (l .i) p bytes _ (l .fans) (l .chip) _ _ _ _ (at .0) (at .3) (omega (arith, at .0, five)) (at .1) (at .2) refl (lent-is (l .i) bytes) (w .5 .ensures)
     (w .6 .ensures .0) (w .6 .ensures .1 .0) (w .6 .ensures .1 .1) in
     (ap length (w .11) ∙ length-set (l .fans) _ _ ∙ five, rw (w .12, w .11, w .10 ∙ w .9 .ensures) (rw (w .8 .taken) at row)))
     (λ v.
     ⊎-elim
     (λ w.
-    let at = found-at p _ _ found (w .1 .given .1) in
-    let row = row-turn n _ _ (l .i) p bytes _ (l .fans) (l .chip) _ _ _ _ (at .0) (omega (arith, at .0, five)) (at .1) (at .2) refl (lent-is (l .i) bytes) (w .5 .ensures)
+    let at = found-at _ p _ _ found (w .1 .given .1) in
+    let row = row-turn n _ _ (l .i) p bytes _ (l .fans) (l .chip) _ _ _ _ (at .0) (at .3) (omega (arith, at .0, five)) (at .1) (at .2) refl (lent-is (l .i) bytes) (w .5 .ensures)
     (w .6 .ensures .0) (w .6 .ensures .1 .0) (w .6 .ensures .1 .1) in
     (ap length (w .10) ∙ length-set (l .fans) _ _ ∙ five, rw (w .11, w .10, w .9) (rw (w .8 .left) at row)))
     (λ v.
@@ -169,8 +176,8 @@ wrote c =
 
 loop-again : tie.Need-loop-again Inv-loop μ-loop
 loop-again c =
-    let l = c .before .before .before .before .before .loop in
-    let bytes = c .before .before .before .before .before .before .before .before .args .bytes .now in
+    let l = c .before .before .before .before .before .before .loop in
+    let bytes = c .before .before .before .before .before .before .before .before .before .args .bytes .now in
     let m = c .before .before .match in
     let n = counted (c .before .before) in
     let w = wrote (c .before .before) in (
@@ -192,6 +199,7 @@ in-turn-spec =
     Inv-loop
     μ-loop
     loop-holds
+    fan-count-requires
     register-of-requires
     enum-known-at
     mul-fan

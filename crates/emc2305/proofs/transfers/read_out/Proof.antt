@@ -10,7 +10,10 @@ use Rattle.laws.specs.Buffer.{laidOver}
 use Rattle.laws.proofs.Repeat.{once-more}
 use Rattle.laws.proofs.Cases.{cases}
 use Rattle.emc2305_chip.specs.declared.Register.the-variants.{OfFan}
-use Rattle.emc2305_chip.specs.State.{withPointer}
+use Rattle.emc2305_chip.specs.State.{fanCount, withPointer}
+use Rattle.emc2305_chip.specs.Registers.{registerAt}
+use Rattle.emc2305_chip.specs.Map.{registerOf}
+use Rattle.emc2305_chip.proofs.Bits.{nothing-cleared}
 use Rattle.emc2305_chip.proofs.Maps.{Placed, found-at}
 use Rattle.emc2305.specs.Transfers.{pointerPast, byteRead, replyOf}
 use Rattle.emc2305.proofs.Turns.{reply-next}
@@ -30,6 +33,9 @@ loop-holds : tie.Need-loop-holds Inv-loop μ-loop
 unfolding repeated replyOf
 loop-holds c = (omega arith, refl, refl, refl, λ k o. refl)
 
+fan-count-requires : tie.Need-fan-count-requires Inv-loop μ-loop
+fan-count-requires c κs = search cases
+
 register-of-requires : tie.Need-register-of-requires Inv-loop μ-loop
 register-of-requires c κs = search cases
 
@@ -39,8 +45,8 @@ enum-known-at c = search cases
 -- the fan and the offset at the pointer
 on-fan : (c : tie.After-known-told Inv-loop μ-loop)
     → (let at = c .before .at .given .0 in
-    Placed (c .before .before .before .before .before .loop .pointer) (OfFan (at .0) (at .1 .0)))
-on-fan c = found-at _ _ _ (c .before .before .before .register-of .ensures) (c .before .at .given .1)
+    Placed (fanCount (c .before .before .before .before .before .before .loop .chip)) (c .before .before .before .before .before .before .loop .pointer) (OfFan (at .0) (at .1 .0)))
+on-fan c = found-at _ _ _ _ (c .before .before .before .register-of .ensures ∙ rw (c .before .before .before .before .fan-count .ensures)) (c .before .at .given .1)
 
 mul-fan : tie.Need-mul-fan Inv-loop μ-loop
 mul-fan c = let at = on-fan c in omega (arith, at .0)
@@ -87,29 +93,39 @@ loop-less c = search cases
 -- a byte was laid, and read as it should be
 read : (c : tie.At-match-came Inv-loop μ-loop)
     → (byte : ℕ)
-    × (c .match .reply ≡ set (c .before .before .before .loop .reply) (c .before .before .before .loop .i) byte)
-    × ReadOne (c .before .before .before .before .before .before .args .n) (c .before .before .before .loop .pointer) byte (c .before .before .before .loop .chip) (c .match .chip) (c .before .before .before .before .before .before .args .chip .fans)
+    × (c .match .reply ≡ set (c .before .before .before .before .loop .reply) (c .before .before .before .before .loop .i) byte)
+    × ReadOne (c .before .before .before .before .before .before .before .args .n) (c .before .before .before .before .loop .pointer) byte (c .before .before .before .before .loop .chip) (c .match .chip) (c .before .before .before .before .before .before .before .args .chip .fans)
 read c =
-    let l = c .before .before .before .loop in
-    let a = c .before .before .before .before .before .before .args in
+    let l = c .before .before .before .before .loop in
+    let a = c .before .before .before .before .before .before .before .args in
     let next = c .match .chip in
     let fans = a .chip .fans in
     let same = l .inv .4 in
-    let found = sym (c .before .register-of .ensures) in
+    let found : registerAt (l .chip) (l .pointer) ≡ c .before .register-of .result =
+    sym (c .before .register-of .ensures ∙ ap (λ (k : ℕ). registerOf k (l .pointer)) (c .before .before .fan-count .ensures)) in
     ⊎-elim
     (λ w. (w .4 .result, w .6, fan-read (a .n) (l .pointer) (w .4 .result) (l .chip) next fans same _ _ (found ∙ w .1 .given .1) (w .4 .ensures) (w .5)))
     (λ v.
     ⊎-elim
-    (λ w. (w .3 .result, w .8, own-read (a .n) (l .pointer) (w .3 .result) (l .chip) next fans same _ (found ∙ w .1 .given .1) (w .3 .ensures) (w .7 ∙ w .6 .ensures)))
+    (λ w. (w .3 .result, w .9, own-read (a .n) (l .pointer) (w .3 .result) (l .chip) next fans same _ (found ∙ w .1 .given .1) (w .3 .ensures) (w .8 ∙ w .7 .ensures)))
     (λ v.
     ⊎-elim
     (λ w. (
       w .3 .result,
-      w .7,
+      w .8,
       own-shown (a .n) (l .pointer) (w .3 .result) (l .chip) next fans same _ (found ∙ w .1 .given .1) (w .3 .ensures)
-          (sym (w .4 .ensures) ∙ w .5 .left) (w .6),
+          (sym (w .5 .ensures) ∙ w .6 .left) (w .7),
+    ))
+    (λ v.
+    ⊎-elim
+    (λ w. (
+      w .3 .result,
+      w .6,
+      own-read (a .n) (l .pointer) (w .3 .result) (l .chip) next fans same _ (found ∙ w .1 .given .1) (w .3 .ensures)
+          (w .5 ∙ sym (nothing-cleared (w .1 .given .0 .0) (l .chip) (sym (w .3 .ensures) ∙ w .4 .left))),
     ))
     (λ w. (0, w .3, none-read (a .n) (l .pointer) 0 (l .chip) next fans same (found ∙ w .1 .given .1) refl (w .2)))
+    v)
     v)
     v)
     (c .match .came)
@@ -117,8 +133,8 @@ read c =
 loop-again : tie.Need-loop-again Inv-loop μ-loop
 unfolding pointerPast
 loop-again c =
-    let l = c .before .before .before .before .loop in
-    let a = c .before .before .before .before .before .before .before .args in
+    let l = c .before .before .before .before .before .loop in
+    let a = c .before .before .before .before .before .before .before .before .args in
     let m = c .before .match in
     let r = read (c .before) in (
       omega arith,
@@ -146,6 +162,7 @@ read-out-spec =
     Inv-loop
     μ-loop
     loop-holds
+    fan-count-requires
     register-of-requires
     enum-known-at
     mul-fan

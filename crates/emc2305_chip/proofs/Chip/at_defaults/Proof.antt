@@ -4,15 +4,18 @@ use Rattle.emc2305_chip.specs.Registers.{atDefaults}
 use Rattle.emc2305_chip.proofs.Chip.at_defaults.Statement.{statement}
 use Rattle.emc2305_chip.proofs.Chip.at_defaults.Tie as tie
 
-power-on-requires : tie.Need-power-on-requires
-power-on-requires c κs = search needs
+reset-requires : tie.Need-reset-requires
+reset-requires c κs = search needs
+
+powered-on-requires : tie.Need-powered-on-requires
+powered-on-requires c κs = search needs
 
 each-requires : tie.Need-each-requires
 each-requires c κs = search needs
 
 returns : tie.Need-returns
 unfolding atDefaults
-returns c = rw (c .each .ensures)
+returns c = rw (c .each .ensures, c .before .before .before .reset .ensures)
 
 pub at-defaults-spec : {M : Type 1} → statement M
-at-defaults-spec = tie.close (tie.spec power-on-requires each-requires returns)
+at-defaults-spec = tie.close (tie.spec reset-requires powered-on-requires each-requires returns)

@@ -1,19 +1,20 @@
 -- `emc2305_chip::fans::each` meets its contract.
-use mathlib.Core.Path.{_≡_, _∙_}
-use Prim.Native.Nat.{_-_, _≤_}
+use mathlib.Core.Path.{_≡_, ap, _∙_}
+use Prim.Native.Nat.{ℕ, _-_, _≤_}
 use native.Mathlib.Omega.{arith}
 use borrow.Author.Needs.{needs}
-use Rattle.laws.proofs.Lists.{movedTo, moved-next, moved-all}
+use Rattle.laws.specs.Lists.{firstMoved}
+use Rattle.laws.proofs.Lists.{moved-next}
 use Rattle.laws.proofs.Cases.{cases}
 use Rattle.emc2305_chip.specs.Fans.{moveOf}
 use Rattle.emc2305_chip.proofs.fans.each.Statement.{statement}
 use Rattle.emc2305_chip.proofs.fans.each.Tie as tie
 
 abbrev Inv-loop : tie.InvT-loop
-Inv-loop what fans₀ i₀ fans i = (i ≤ 5) × (fans ≡ movedTo i (moveOf what) fans₀)
+Inv-loop n what fans₀ i₀ fans i = (i ≤ n) × (fans ≡ firstMoved i (moveOf what) fans₀)
 
 abbrev μ-loop : tie.MeasureT-loop
-μ-loop what fans₀ i₀ fans i = 5 - i
+μ-loop n what fans₀ i₀ fans i = n - i
 
 loop-holds : tie.Need-loop-holds Inv-loop μ-loop
 loop-holds c = search cases
@@ -48,7 +49,7 @@ loop-again c = (
 returns : tie.Need-returns Inv-loop μ-loop
 returns c =
     let a = c .before .before .args in
-    c .before .loop .inv .1 ∙ moved-all (c .before .loop .i) (moveOf (a .what)) (a .t1) (search needs)
+    c .before .loop .inv .1 ∙ ap (λ (k : ℕ). firstMoved k (moveOf (a .what)) (a .t1)) {x = c .before .loop .i} {y = a .n} (let h = c .before .loop .inv .0 in let k = c .loop-test .left in omega arith)
 
 pub each-spec : {M : Type 1} → statement M
 each-spec =

@@ -1,22 +1,22 @@
 -- `emc2305_chip::fans::interrupting` meets its contract.
-use mathlib.Core.Path.{refl, _≡_, ap, _∙_}
-use Prim.Native.Nat.{ℕ, _-_, _≤_}
+use mathlib.Core.Path.{_≡_, ap, _∙_}
+use Prim.Native.Nat.{ℕ, min, _-_, _≤_}
 use native.Mathlib.Omega.{arith}
 use Rattle.laws.proofs.Cases.{cases}
 use Rattle.emc2305_chip.specs.Fans.{interrupting}
-use Rattle.emc2305_chip.proofs.Bits.{interrupting-next}
+use Rattle.emc2305_chip.proofs.Bits.{none-yet, all-places, interrupting-next}
 use Rattle.emc2305_chip.proofs.fans.interrupting.Statement.{statement}
 use Rattle.emc2305_chip.proofs.fans.interrupting.Tie as tie
 
 abbrev Inv-loop : tie.InvT-loop
-Inv-loop enable fans on₀ i₀ on i = (i ≤ 5) × (on ≡ interrupting enable fans i)
+Inv-loop n enable fans on₀ i₀ on i = (i ≤ 5) × (on ≡ interrupting enable fans (min i n))
 
 abbrev μ-loop : tie.MeasureT-loop
-μ-loop enable fans on₀ i₀ on i = 5 - i
+μ-loop n enable fans on₀ i₀ on i = 5 - i
 
 loop-holds : tie.Need-loop-holds Inv-loop μ-loop
 unfolding interrupting
-loop-holds c = (omega arith, refl)
+loop-holds c = (omega arith, rw (none-yet (c .args .n)))
 
 mul-fan : tie.Need-mul-fan Inv-loop μ-loop
 mul-fan c = search cases
@@ -36,11 +36,11 @@ loop-less c = search cases
 loop-again : tie.Need-loop-again Inv-loop μ-loop
 loop-again c = (
   omega arith,
-  interrupting-next _ _ _ _ _ (c .before .before .before .loop .inv .1) (c .interrupts .ensures),
+  interrupting-next _ _ _ _ _ _ (c .before .before .before .loop .inv .1) (c .interrupts .ensures),
 )
 
 returns : tie.Need-returns Inv-loop μ-loop
-returns c = c .before .loop .inv .1 ∙ ap (λ (k : ℕ). interrupting (c .before .before .args .enable) (c .before .before .args .t1) k) (omega arith)
+returns c = c .before .loop .inv .1 ∙ ap (λ (k : ℕ). interrupting (c .before .before .args .enable) (c .before .before .args .t1) k) (all-places _ _ (c .before .loop .inv .0) (c .loop-test .left) (c .before .before .pre))
 
 pub interrupting-spec : {M : Type 1} → statement M
 interrupting-spec =

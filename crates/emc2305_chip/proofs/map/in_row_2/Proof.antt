@@ -16,45 +16,45 @@ sub-t10 c = search needs
 
 returns : tie.Need-returns
 unfolding registerOf
-returns c = rw (c .match .keys1)
+returns c fans = rw (c .match .keys1)
 
 returns-2 : tie.Need-returns-2
 unfolding registerOf
-returns-2 c = rw (c .match .keys2)
+returns-2 c fans = rw (c .match .keys2)
 
 returns-3 : tie.Need-returns-3
 unfolding registerOf
-returns-3 c = rw (c .match .keys3)
+returns-3 c fans = rw (c .match .keys3)
 
 returns-4 : tie.Need-returns-4
 unfolding registerOf
-returns-4 c = rw (c .match .keys4)
+returns-4 c fans = rw (c .match .keys4)
 
 returns-5 : tie.Need-returns-5
 unfolding registerOf
-returns-5 c = rw (c .match .keys5)
+returns-5 c fans = rw (c .match .keys5)
 
 returns-6 : tie.Need-returns-6
 unfolding registerOf
-returns-6 c = rw (c .match .keys6)
+returns-6 c fans = rw (c .match .keys6)
 
 returns-7 : tie.Need-returns-7
-returns-7 c =
+returns-7 c fans =
     let a = 0x20 + c .before .before .before .args .offset in
-    sym (maps-output a (omega arith) (omega arith) ∙ ap (λ (k : ℕ). OfChip (Output k)) (omega arith))
+    sym (maps-output fans a (omega arith) (omega arith) ∙ ap (λ (k : ℕ). OfChip (Output k)) (omega arith))
 
 returns-8 : tie.Need-returns-8
-returns-8 c =
+returns-8 c fans =
     let a = 0x20 + c .before .before .args .offset in
     let not-at = c .before .match .rest in
-    sym (maps-low a (omega arith) (ne-eqb a 0x20 (λ e. not-at .0 .0 .0 .0 .0 .1 (omega (arith, e)))) (ne-eqb a 0x24 (λ e. not-at .0 .0 .0 .0 .1 (omega (arith, e))))
+    sym (maps-low fans a (omega arith) (ne-eqb a 0x20 (λ e. not-at .0 .0 .0 .0 .0 .1 (omega (arith, e)))) (ne-eqb a 0x24 (λ e. not-at .0 .0 .0 .0 .1 (omega (arith, e))))
     (ne-eqb a 0x25 (λ e. not-at .0 .0 .0 .1 (omega (arith, e)))) (ne-eqb a 0x26 (λ e. not-at .0 .0 .1 (omega (arith, e))))
     (ne-eqb a 0x27 (λ e. not-at .0 .1 (omega (arith, e)))) (ne-eqb a 0x29 (λ e. not-at .1 (omega (arith, e)))))
 
 returns-9 : tie.Need-returns-9
-returns-9 c =
+returns-9 c fans =
     let short = c .before .before .before .pre in
-    sym (maps-gap (0x20 + c .before .before .before .args .offset) (omega arith) (omega (arith, short)))
+    sym (maps-gap fans (0x20 + c .before .before .before .args .offset) (omega arith) (omega (arith, short)))
 
 pub in-row-2-spec : {M : Type 1} → statement M
 in-row-2-spec =

@@ -10,17 +10,17 @@ use Rattle.emc2305_chip.proofs.map.in_row_f.Statement.{statement}
 use Rattle.emc2305_chip.proofs.map.in_row_f.Tie as tie
 
 returns : tie.Need-returns
-returns c =
+returns c fans =
     let a = 0xF0 + c .before .before .args .offset in
-    sym (maps-identity a (omega arith) (omega arith) ∙ ap (λ (k : ℕ). OfChip (Identity k)) (omega arith))
+    sym (maps-identity fans a (omega arith) (omega arith) ∙ ap (λ (k : ℕ). OfChip (Identity k)) (omega arith))
 
 returns-2 : tie.Need-returns-2
-returns-2 c =
+returns-2 c fans =
     let a = 0xF0 + c .before .args .offset in
-    sym (maps-high a (omega arith) (omega arith) (ne-eqb a 0xEF (λ e. omega arith)))
+    sym (maps-high fans a (omega arith) (omega arith) (ne-eqb a 0xEF (λ e. omega arith)))
 
 returns-3 : tie.Need-returns-3
-returns-3 c = absurd (let short = c .before .before .pre in omega (arith, short))
+returns-3 c fans = absurd (let short = c .before .before .pre in omega (arith, short))
 
 pub in-row-f-spec : {M : Type 1} → statement M
 in-row-f-spec = tie.close (tie.spec returns returns-2 returns-3)
