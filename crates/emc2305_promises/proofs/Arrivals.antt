@@ -65,14 +65,14 @@ module _ (i d g s u p : ℕ) (c : Chip) (r : Ramping i d g s u p c) where
   -- the updates in n ticks
   in-ticks : (n : ℕ) → c .watch ≡ Off → updatesIn i n c ≡ (p + n) / u
   unfolding updatesIn
-  in-ticks zero w = rw (add-zero p, div-eq-of-lt (r .7))
+  in-ticks zero w = rw (add-zero p, div-eq-of-lt (r .0 .7))
   in-ticks (suc n) w =
       let x = p + n in
       let a = chip-ticks n i d g s u p c r w in
       let e : p + suc n ≡ x + 1 = omega arith in
-      rw (in-ticks n w, a .0, a .1, a .5, a .6, e)
+      rw (in-ticks n w, a .0 .0, a .0 .1, a .0 .5, a .0 .6, e)
       (by-test (leb u (x % u + 1))
-      (λ t. rw t (sym (one-round x u (omega (arith, leb-true u (x % u + 1) t, a .7)) .0)))
+      (λ t. rw t (sym (one-round x u (omega (arith, leb-true u (x % u + 1) t, a .0 .7)) .0)))
       (λ t. rw t (add-zero (x / u) ∙ sym (one-more x u (leb-false u (x % u + 1) t) .0))))
 
   -- in one event
@@ -80,12 +80,12 @@ module _ (i d g s u p : ℕ) (c : Chip) (r : Ramping i d g s u p c) where
       → cond (isTaken h c) (updatesIn i (ticksOf (h .event)) c) 0 ≡ (p + cond (isTaken h c) (ticksOf (h .event)) 0) / u
   in-event h q =
       by-test (isTaken h c) (λ t. rw t (in-ticks (ticksOf (h .event)) (off-before i h c q)))
-      (λ t. rw (t, add-zero p, div-eq-of-lt (r .7)))
+      (λ t. rw (t, add-zero p, div-eq-of-lt (r .0 .7)))
 
 made : (i d g s u p : ℕ) (c : Chip) (events : List Handed) → Ramping i d g s u p c → throughout (undisturbed i) events c ≡ true
     → updatesMade i events c ≡ (p + takenTicks events c) / u
 unfolding updatesMade any.takenTicks
-made i d g s u p c [] r q = rw (add-zero p, div-eq-of-lt (r .7))
+made i d g s u p c [] r q = rw (add-zero p, div-eq-of-lt (r .0 .7))
 made i d g s u p c (h ∷ rest) r q =
     let n : ℕ = cond (isTaken h c) (ticksOf (h .event)) 0 in
     let t = takenTicks rest (next h c) in
@@ -101,7 +101,7 @@ pub arrival : Arrival
 arrival i d g s u p c events r q =
     let e = made i d g s u p c events r q in
     let n = (p + takenTicks events c) / u in
-    (e, λ h. rw (ramp-promise i d g s u p c events r q .2, e, mul-comm s n, ← updates n d g s) (arrives n d g s h))
+    (e, λ h. rw (ramp-promise i d g s u p c events r q .0 .2, e, mul-comm s n, ← updates n d g s) (arrives n d g s h))
 
 -- a sequence that is cut after k events
 kept-cut : (rule : Handed → Chip → Bool) (k : ℕ) (events : List Handed) (c : Chip) → throughout rule events c ≡ true
@@ -149,5 +149,5 @@ never-passes i d g s u p k m l n c events r q (here, there, order) =
     let e : later ≡ t + more = ⊎-elim (λ b. omega (arith, ticks-up-to k l events c b)) (λ b. rw (b .0) (omega (arith, b .1))) order in
     let x = at-each-point i d g s u p k m c events r q here in
     let y = at-each-point i d g s u p l n c events r q there in
-    rw (x .2, y .2, e, moved-then t more d g s u p (omega arith))
+    rw (x .0 .2, y .0 .2, e, moved-then t more d g s u p (omega arith))
     (one-update d g (s * ((p + t) / u)) .1, one-update (moved d g (s * ((p + t) / u))) g _ .1)

@@ -6,9 +6,15 @@ use Prim.Native.Nat.{ℕ, zero, suc}
 use lib.ListN.{length, getD}
 use Rattle.laws.specs.Buffer.{bytesAt}
 use Rattle.laws.specs.Repeat.{repeated}
+use Rattle.laws.proofs.Lists.{moved-none}
 use Rattle.laws.proofs.Tests.{by-test}
 use Rattle.eventlog.specs.declared.Event.{Event}
+use Rattle.emc2305_fan.specs.declared.Bit.the-variants.{Stall, Spin}
+use Rattle.emc2305_fan.specs.declared.Fan.{Fan}
 use Rattle.emc2305_fan.specs.Registers.{bit}
+use Rattle.emc2305_fan.specs.Tick.{ticked}
+use Rattle.emc2305_fan.specs.Tach.{fired}
+use Rattle.emc2305_fan.specs.Status.{bitRead}
 use Rattle.emc2305_fan.specs.Stored.{programs}
 use Rattle.emc2305_watchdog.specs.declared.Watch.{Watch}
 use Rattle.emc2305_watchdog.specs.declared.Watch.the-variants.{Off, PowerUp, Continuous}
@@ -18,10 +24,9 @@ use Rattle.emc2305_chip.specs.declared.Register.{Register}
 use Rattle.emc2305_chip.specs.declared.Own.{Own}
 use Rattle.emc2305_chip.specs.declared.Own.the-variants.{Configuration, Status, StallStatus, SpinStatus, DriveFailStatus, Enable, Output, Lock, Identity}
 use Rattle.emc2305_chip.specs.declared.Register.the-variants.{OfFan, OfChip, Undefined}
-use Rattle.emc2305_chip.specs.State.{withFans, withPointer}
-use Rattle.emc2305_chip.specs.Map.{registerOf}
+use Rattle.emc2305_chip.specs.State.{fanCount, withFans, withPointer}
 use Rattle.emc2305_chip.specs.Watching.{fedChip}
-use Rattle.emc2305_chip.specs.Registers.{ownCleared, clearedOf, clearedAt, ownStores, storesIn, ownStored, storedOf, storesAt, writtenAt, fanStored}
+use Rattle.emc2305_chip.specs.Registers.{ownCleared, clearedOf, clearedAt, registerAt, ownStores, storesIn, ownStored, storedOf, storesAt, writtenAt, fanStored}
 use Rattle.emc2305_chip.specs.Ticks.{allFired, allTicked, chipTicked}
 use Rattle.emc2305_chip.proofs.Moves.{stored-keeps, written-keeps}
 use Rattle.emc2305.specs.Transfers.{passed, byteWritten, inTurn, sent, byteRead}
@@ -58,7 +63,7 @@ repeated-bare (suc n) move c h = h (repeated n move c) ∙ ap move (repeated-bar
 
 tick-bare : (c : Chip) → bare (chipTicked c) ≡ chipTicked (bare c)
 unfolding chipTicked allFired allTicked
-tick-bare c = by-test (fires (c .watch)) (λ t. rw t) (λ t. rw t)
+tick-bare c = by-test (fires (c .watch)) (λ t. rw (t, moved-none (fanCount c) fired)) (λ t. rw (t, moved-none (fanCount c) ticked))
 
 passed-bare : (n : ℕ) (c : Chip) → bare (passed n c) ≡ passed n (bare c)
 passed-bare n c = refl
@@ -66,8 +71,8 @@ passed-bare n c = refl
 own-cleared-bare : (own : Own) (c : Chip) → bare (ownCleared own c) ≡ ownCleared own (bare c)
 own-cleared-bare Configuration c = refl
 own-cleared-bare Status c = refl
-own-cleared-bare StallStatus c = refl
-own-cleared-bare SpinStatus c = refl
+own-cleared-bare StallStatus c = ap (λ (l : List Fan). withFans l c) (sym (moved-none (fanCount c) (bitRead Stall)))
+own-cleared-bare SpinStatus c = ap (λ (l : List Fan). withFans l c) (sym (moved-none (fanCount c) (bitRead Spin)))
 own-cleared-bare DriveFailStatus c = refl
 own-cleared-bare Enable c = refl
 own-cleared-bare (Output i) c = refl
@@ -81,7 +86,7 @@ cleared-bare Undefined c = refl
 
 read-bare : (n : ℕ) (c : Chip) → bare (byteRead n c) ≡ byteRead n (bare c)
 unfolding byteRead clearedAt
-read-bare n c = passed-bare n (clearedAt (c .pointer) c) ∙ ap (passed n) (cleared-bare (registerOf (c .pointer)) c)
+read-bare n c = passed-bare n (clearedAt (c .pointer) c) ∙ ap (passed n) (cleared-bare (registerAt c (c .pointer)) c)
 
 pub reads-bare : (n k : ℕ) (c : Chip) → bare (repeated k (byteRead n) c) ≡ repeated k (byteRead n) (bare c)
 reads-bare n k c = repeated-bare k (byteRead n) c (read-bare n)
@@ -120,7 +125,7 @@ module _ (byte : ℕ) (c : Chip) (up : inPowerUp (c .watch) ≡ false) where
 
   written-bare : (a : ℕ) → bare (writtenAt a byte c) ≡ writtenAt a byte (bare c)
   unfolding writtenAt storesAt
-  written-bare a = register-bare (registerOf a)
+  written-bare a = register-bare (registerAt c a)
 
   pub byte-bare : (n : ℕ) → bare (byteWritten n byte c) ≡ byteWritten n byte (bare c)
   unfolding byteWritten
@@ -135,7 +140,7 @@ module _ (byte : ℕ) (c : Chip) (up : inPowerUp (c .watch) ≡ false) where
       ∙ written-keeps v (c .pointer) byte c
       (λ t.
       stored-keeps v (λ (r : Register). true) byte c (λ e. not-up (bit 5 byte) (c .watch) up) refl (λ i. refl)
-      (λ i offset e. ap v (fan-bare i offset)) (λ e. refl) (registerOf (c .pointer)) refl)
+      (λ i offset e. ap v (fan-bare i offset)) (λ e. refl) (registerAt c (c .pointer)) refl)
       ∙ up
 
 turns-bare : (n : ℕ) (bytes : List ℕ) (c : Chip) → inPowerUp (c .watch) ≡ false → bare (inTurn n bytes c) ≡ inTurn n bytes (bare c)
@@ -152,7 +157,7 @@ sent-bare (pointer ∷ rest) c up = turns-bare (length rest) rest (withPointer p
 pub taken-bare : (log : List ℕ) (event : Event) (c : Chip) → c .watch ≡ Off → bare (taken log event c) ≡ bare (taken log event (bare c))
 unfolding taken
 taken-bare log event c off =
-    by-effect (λ (e : Event). bare (taken log e c) ≡ bare (taken log e (bare c))) (λ address. refl)
+    by-effect (λ (e : Event). bare (taken log e c) ≡ bare (taken log e (bare c))) (λ e on. rw (on .resets log c, on .resets log (bare c)))
     (λ n. repeated-bare n chipTicked c tick-bare ∙ sym (repeated-bare n chipTicked (bare c) tick-bare)) (λ fan n. refl) (λ fan drive. refl)
     (λ to place n. let k = getD log place 0 in reads-bare k k (fedChip c) ∙ sym (reads-bare k k (fedChip (bare c))))
     (λ to place n.

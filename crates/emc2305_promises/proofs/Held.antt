@@ -28,6 +28,7 @@ use Rattle.emc2305_fan.proofs.Steps.{ticks-ramp, ticks-still, healthy}
 use Rattle.emc2305_fan.proofs.Kept.{registers-after, status-after}
 use Rattle.emc2305_fan.proofs.Statuses.{status-read}
 use Rattle.emc2305_watchdog.specs.Watch.{inPowerUp}
+use Rattle.emc2305_chip.specs.State.{fanCount}
 use Rattle.emc2305_chip.specs.declared.Chip.{Chip}
 use Rattle.emc2305_chip.specs.Watching.{fedChip}
 use Rattle.emc2305_chip.specs.Registers.{onFan}
@@ -36,13 +37,13 @@ use Rattle.emc2305.specs.Transfers.{byteRead}
 use Rattle.emc2305.specs.Step.{taken}
 use Rattle.emc2305.specs.Traffic.{isSampleOf}
 use Rattle.emc2305.proofs.Effects.{by-effect}
+use Rattle.emc2305.proofs.Parts.{after-part}
 use Rattle.emc2305.proofs.FansKept.{five-fans}
 use Rattle.walks.specs.Sequence.{Handed}
 use Rattle.emc2305_promises.specs.Ramp.{next, afterAll, fanOf, noPowerOn, noStoredWrite}
 use Rattle.emc2305_promises.specs.Held.{registerFor, replyByte, Reads, readsAmong, noReadOf, noSampleOf, noGoodSample, held, HeldRotor, leftAlone, driven, ticksCanSet, HeldSame, unread, RotorTurns}
-use Rattle.emc2305_promises.proofs.Events.{by-taken}
-use Rattle.emc2305_promises.proofs.OwnBytes.{reads-count}
-use Rattle.emc2305_promises.proofs.LeftAlone.{Kept, both, of-event, of-events, later-five}
+use Rattle.emc2305_promises.proofs.Events.{by-taken, Has, has, has-reads}
+use Rattle.emc2305_promises.proofs.LeftAlone.{Kept, both, of-event, of-events}
 use Rattle.emc2305_promises.proofs.StatusReads.{reads-keep, stuck-reads, reply-bit, not-among, read-once, by-bit, slow-aside, other-kept, gone-kept, read-there, read-taken}
 
 -- the reading is judged by two registers
@@ -108,14 +109,14 @@ unfolding stuck
 stuck-there f rest q slow = rw slow (and-left (ltb 0 (f .drive)) rest q)
 
 -- a fan that is stuck, and that a read shows its bit
-shows : (which : Bit) (i k : ℕ) (h : Handed) (c : Chip) → length (c .fans) ≡ 5 → i < 5 → stuck (fanOf i c) ≡ true → Reads (registerFor which) k h c
+shows : (which : Bit) (i k : ℕ) (h : Handed) (c : Chip) → length (c .fans) ≡ 5 → i < fanCount c → stuck (fanOf i c) ≡ true → Reads (registerFor which) k h c
     → bit i (replyByte k h c) ≡ standing which (fanOf i c)
 shows which i k h c five l s reads =
     reply-bit which i k h c l reads
-    ∙ ap (standing which) (stuck-reads i (replyLength (h .log) (h .event)) k (fedChip c) (omega arith) s)
+    ∙ ap (standing which) (stuck-reads i (replyLength (h .log) (h .event)) k (fedChip c) (has i c five l) s)
 
 -- an event that does nothing to a fan that is stuck
-stuck-on : (i : ℕ) (P : Fan → Type 0) → Kept P → (h : Handed) (c : Chip) → i < length (c .fans) → leftAlone i h c ≡ true → stuck (fanOf i c) ≡ true
+stuck-on : (i : ℕ) (P : Fan → Type 0) → Kept P → (h : Handed) (c : Chip) → Has i c → leftAlone i h c ≡ true → stuck (fanOf i c) ≡ true
     → P (fanOf i c) → P (fanOf i (next h c))
 stuck-on i P keeps h c there q s x =
     let n = replyLength (h .log) (h .event) in
@@ -129,13 +130,14 @@ held-same which i k c events h (five, l) slow calm q r reads =
     let keeps =
     bit-kept which stood (λ (f : Fan). (tooSlow f ≡ true) × (ticksCanSet which f ≡ false)) (both (slow-kept true) (calm-kept which))
     (λ f s p. ticks-leave which f (λ can. absurd (true≢false (sym can ∙ s .1))) ∙ p) in
-    let x : P (fanOf i later) =
-    of-events i P (driven i) l
+    let after =
+    of-events i P (driven i) (λ g d y. and-left (noPowerOn g d) _ (and-right (ltb 0 (fanOf i d .drive)) (leftAlone i g d) y))
     (λ g d there y p.
     let f = fanOf i d in
     stuck-on i P keeps g d there (and-right (ltb 0 (f .drive)) (leftAlone i g d) y) (stuck-there f (leftAlone i g d) y (p .0 .0)) p)
-    events c five q ((slow, calm), refl) in
-    shows which i k h later (later-five events c five) l (stuck-there (fanOf i later) (leftAlone i h later) r (x .0 .0)) reads ∙ x .1
+    events c five l q ((slow, calm), refl) in
+    let x = after .0 in
+    shows which i k h later (after .1) (after .2) (stuck-there (fanOf i later) (leftAlone i h later) r (x .0 .0)) reads ∙ x .1
 
 -- a sample leaves a bit that stands
 sample-clears-none : (which : Bit) (count : ℕ) (watch : Bool) (f : Fan) → standing which f ≡ true → standing which (sampled count watch f) ≡ true
@@ -143,23 +145,23 @@ sample-clears-none Stall count watch f p = status-after f .2 count watch .0 ∙ 
 sample-clears-none Spin count watch f p = status-after f .2 count watch .1 ∙ p
 
 -- the fan that a sample is of
-sampled-own : (i count : ℕ) (log : List ℕ) (c : Chip) → i < length (c .fans)
+sampled-own : (i count : ℕ) (log : List ℕ) (c : Chip) → Has i c
     → fanOf i (taken log (Sample (i + 1) count) c) ≡ sampled count (inPowerUp (c .watch)) (fanOf i c)
 unfolding taken
 sampled-own i count log c there =
     let at : i + 1 - 1 ≡ i = omega arith in
     let move = sampled count (inPowerUp (c .watch)) in
-    ap (λ (j : ℕ). fanOf i (onFan j move c)) at ∙ one-fan c i move .0 there
+    ap (λ (j : ℕ). fanOf i (onFan j move c)) at ∙ one-fan c i move .0 (there .1)
 
 -- an event that is a taken sample of it
-sample-taken : (which : Bit) (i : ℕ) (h : Handed) (c : Chip) → i < length (c .fans) → noSampleOf i h c ≡ false → standing which (fanOf i c) ≡ true
+sample-taken : (which : Bit) (i : ℕ) (h : Handed) (c : Chip) → Has i c → noSampleOf i h c ≡ false → standing which (fanOf i c) ≡ true
     → standing which (fanOf i (next h c)) ≡ true
 sample-taken which i h c there some p =
     by-taken h c
     (λ t e ranged.
     ap (λ (d : Chip). standing which (fanOf i d)) e
     ∙ by-effect (λ (event : Event). isSampleOf i event ≡ true → standing which (fanOf i (taken (h .log) event c)) ≡ true)
-    (λ address y. absurd (false≢true y)) (λ count y. absurd (false≢true y))
+    (λ e on y. let none : isSampleOf i e ≡ false = on .no-sample false _ in absurd (true≢false (sym y ∙ none))) (λ count y. absurd (false≢true y))
     (λ fan count y. rw (eqb-true fan (i + 1) y, sampled-own i count (h .log) c there) (sample-clears-none which count _ (fanOf i c) p))
     (λ fan drive y. absurd (false≢true y)) (λ to place n y. absurd (false≢true y)) (λ to place n y. absurd (false≢true y))
     (λ event idle y. let none : isSampleOf i event ≡ false = idle .no-sample false _ in absurd (true≢false (sym y ∙ none))) (h .event)
@@ -167,7 +169,7 @@ sample-taken which i h c there some p =
     (λ t e. ap (λ (d : Chip). standing which (fanOf i d)) e ∙ p)
 
 -- a bit that stands, over an event while the rotor is held
-held-on : (which : Bit) (i : ℕ) (h : Handed) (c : Chip) → i < length (c .fans) → held i h c ≡ true
+held-on : (which : Bit) (i : ℕ) (h : Handed) (c : Chip) → Has i c → held i h c ≡ true
     → (tooSlow (fanOf i c) ≡ true) × (standing which (fanOf i c) ≡ true) → (tooSlow (fanOf i (next h c)) ≡ true) × (standing which (fanOf i (next h c)) ≡ true)
 held-on which i h c there q x =
     let f = fanOf i c in
@@ -188,8 +190,11 @@ pub held-rotor : HeldRotor
 held-rotor which i k c events h (five, l) slow q r reads stood =
     let later = afterAll events c in
     let rest = noPowerOn h later && (noGoodSample i h later && noStoredWrite i h later) in
-    let x = of-events i (λ (f : Fan). (tooSlow f ≡ true) × (standing which f ≡ true)) (held i) l (held-on which i) events c five q (slow, stood) in
-    shows which i k h later (later-five events c five) l (stuck-there (fanOf i later) rest r (x .0)) reads ∙ x .1
+    let after =
+    of-events i (λ (f : Fan). (tooSlow f ≡ true) × (standing which f ≡ true)) (held i)
+    (λ g d y. and-left (noPowerOn g d) _ (and-right (ltb 0 (fanOf i d .drive)) _ y)) (held-on which i) events c five l q (slow, stood) in
+    let x = after .0 in
+    shows which i k h later (after .1) (after .2) (stuck-there (fanOf i later) rest r (x .0)) reads ∙ x .1
 
 -- a sample that is not too slow is kept, and nothing else comes of it
 reading-at-most : (l : List ℕ) (i x bound : ℕ) → x ≤ bound → getD (set l i x) i 0 ≤ bound
@@ -234,7 +239,7 @@ module _ (which : Bit) (i : ℕ) where
   Turning stood f = (tooSlow f ≡ false) × (standing which f ≡ stood)
 
   -- bytes that are not read from its register
-  unread-keeps : (stood : Bool) (n k : ℕ) (c : Chip) → i < length (c .fans) → Turning stood (fanOf i c)
+  unread-keeps : (stood : Bool) (n k : ℕ) (c : Chip) → Has i c → Turning stood (fanOf i c)
       → ((j : ℕ) → j < k → repeated j (byteRead n) c .pointer ≡ registerFor which → ⊥) → Turning stood (fanOf i (repeated k (byteRead n) c))
   unread-keeps stood n k c l p none =
       reads-keep i (Turning stood) n k c l p
@@ -244,23 +249,23 @@ module _ (which : Bit) (i : ℕ) where
       (λ e. (slow-aside read f ∙ x .0, other-kept which read f e ∙ x .1)))
 
   -- a read that shows the bit, and clears it
-  last-read : (stood : Bool) (k : ℕ) (h : Handed) (c : Chip) → i < 5 → length (c .fans) ≡ 5 → Turning stood (fanOf i c)
+  last-read : (stood : Bool) (k : ℕ) (h : Handed) (c : Chip) → i < fanCount c → length (c .fans) ≡ 5 → Turning stood (fanOf i c)
       → Reads (registerFor which) k h c → (bit i (replyByte k h c) ≡ stood) × (standing which (fanOf i (next h c)) ≡ false)
   unfolding repeated
   last-read stood k h c l five p (t, short, from) =
       let n = replyLength (h .log) (h .event) in
       let d = repeated k (byteRead n) (fedChip c) in
-      let there : i < length (d .fans) = rw (reads-count n k (fedChip c)) (omega arith) in
+      let there : Has i d = has-reads i n k (fedChip c) (has i c five l) in
       by-taken h c
       (λ is e ranged.
       let small : n ≤ 32 = reply-small (h .log) (h .event) ranged in
-      let x = unread-keeps stood n k (fedChip c) (omega arith) p
+      let x = unread-keeps stood n k (fedChip c) (has i c five l) p
       (λ j before first. read-once n j k (fedChip c) (registerFor which) (register-byte which) small before short first from) in
       let cleared : standing which (bitRead which (fanOf i d)) ≡ false =
       status-read which (fanOf i d) .0 ∙ ap (λ (b : Bool). standing which (fanOf i d) && b) (not-stuck (fanOf i d) (x .0)) ∙ and-false (standing which (fanOf i d)) in
       let after : standing which (fanOf i (byteRead n d)) ≡ false = ap (standing which) (read-there which i n d there from) ∙ cleared in
       let rest : standing which (fanOf i (repeated (n - suc k) (byteRead n) (byteRead n d))) ≡ false =
-      reads-keep i (λ (f : Fan). standing which f ≡ false) n (n - suc k) (byteRead n d) (rw (reads-count n 1 d) there) after
+      reads-keep i (λ (f : Fan). standing which f ≡ false) n (n - suc k) (byteRead n d) (has-reads i n 1 d there) after
       (λ j read before at y. gone-kept which read _ y) in (
         reply-bit which i k h c l (t, short, from) ∙ x .1,
         rw (e, read-taken (h .log) (h .event) c (omega arith), ← first-steps (suc k) n (byteRead n) (fedChip c) (omega arith)) rest,
@@ -275,12 +280,13 @@ rotor-turns which i k count room log c events h (five, l) t low q reads =
     by-taken sample c
     (λ is e ranged.
     let s = turning count (inPowerUp (c .watch)) (fanOf i c) low in
-    subst (Turning which i stood) (sym (ap (fanOf i) e ∙ sampled-own i count log c (omega arith))) (s .0, s .1 which))
+    subst (Turning which i stood) (sym (ap (fanOf i) e ∙ sampled-own i count log c (has i c five l))) (s .0, s .1 which))
     (λ isnt e. absurd (true≢false (sym t ∙ isnt))) in
     let first-five = five-fans c log (Sample (i + 1) count) room five in
     let keeps = bit-kept which stood (λ (f : Fan). tooSlow f ≡ false) (slow-kept false) (λ f s p. ticks-leave which f (λ can. s) ∙ p) in
     let end =
-    of-events i (Turning which i stood) (unread (registerFor which) i) l
+    of-events i (Turning which i stood) (unread (registerFor which) i)
+    (λ g d r. and-left (noPowerOn g d) _ (and-right (noReadOf (registerFor which) g d) (leftAlone i g d) r))
     (λ g d there r x.
     let n = replyLength (g .log) (g .event) in
     of-event i (Turning which i stood) keeps g d there (and-right (noReadOf (registerFor which) g d) (leftAlone i g d) r)
@@ -288,5 +294,5 @@ rotor-turns which i k count room log c events h (five, l) t low q reads =
     let none = not-true (readsAmong (registerFor which) n g d) (rw is at (and-left (noReadOf (registerFor which) g d) (leftAlone i g d) r)) in
     unread-keeps which i stood n n (fedChip d) there x (λ j before. not-among (registerFor which) n j g d none before))
     x)
-    events (next sample c) first-five q start in
-    last-read which i stood k h (afterAll events (next sample c)) l (later-five events (next sample c) first-five) end reads
+    events (next sample c) first-five (rw (after-part log (Sample (i + 1) count) room c refl) l) q start in
+    last-read which i stood k h (afterAll events (next sample c)) (end .2) (end .1) (end .0) reads

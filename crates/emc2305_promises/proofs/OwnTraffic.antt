@@ -2,10 +2,9 @@
 use mathlib.Core.Path.{_≡_, refl, sym, ap, _∙_}
 use mathlib.Core.Bool.{true, cond, false≢true}
 use mathlib.Core.List.{List, [], _∷_, append-nil}
-use Prim.Native.Nat.{ℕ, zero, suc, _+_, _-_, _<_}
-use native.Mathlib.Omega.{arith}
+use Prim.Native.Nat.{ℕ, zero, suc, _+_, _-_}
 use lib.Dec.{leb, eqb}
-use lib.ListN.{length, getD, replicate}
+use lib.ListN.{getD, replicate}
 use borrow.Author.Tests.{leb-true}
 use Rattle.laws.specs.Buffer.{bytesAt}
 use Rattle.laws.specs.Repeat.{repeated}
@@ -23,7 +22,7 @@ use Rattle.emc2305_chip.specs.Watching.{fedChip}
 use Rattle.emc2305_chip.specs.Registers.{atDefaults, onFan}
 use Rattle.emc2305_chip.proofs.ChipTicks.{fan-ticks}
 use Rattle.emc2305.specs.Step.{taken}
-use Rattle.emc2305.proofs.Effects.{Idle, by-effect}
+use Rattle.emc2305.proofs.Effects.{Powering, Idle, by-effect}
 use Rattle.emc2305.proofs.FansKept.{five-fans}
 use Rattle.walks.specs.Sequence.{Handed}
 use Rattle.walks.specs.Sequence as any
@@ -31,7 +30,7 @@ use Rattle.emc2305_promises.specs.Ramp.{next, isTaken, afterAll, through
 use Rattle.emc2305_promises.specs.Alone.{Own, tick, sample, wish, moveBy, played, ofTicks, ofSample, ofWish, ofTransfer, ofEvent, ownTraffic, Alone, NoFanWaits}
 use Rattle.walks.proofs.Sequences.{first-rest}
 use Rattle.emc2305_run.specs.Device.{emc2305}
-use Rattle.emc2305_promises.proofs.Events.{is-off, same-fan, by-taken}
+use Rattle.emc2305_promises.proofs.Events.{is-off, same-fan, by-taken, off-part, Has, has}
 use Rattle.emc2305_promises.proofs.OwnBytes.{both, one-own, sent-own, reads-own}
 
 -- a step before n steps is one after them
@@ -45,7 +44,15 @@ unfolding repeated played
 played-ticks zero f = refl
 played-ticks (suc n) f = sym (first-last n f) ∙ played-ticks n (ticked f)
 
--- nothing of an event that leaves every chip
+-- nothing of a power-on, nor of an event that leaves every chip
+pub powering-own : (i : ℕ) (log : List ℕ) (event : Event) (c : Chip) → Powering event → ofEvent i log event c ≡ []
+powering-own i log event c powering =
+    let t : ofTicks event ≡ [] = powering .no-ticks [] _ in
+    let s : ofSample i event ≡ [] = powering .no-sample [] _ in
+    let w : ofWish i event ≡ [] = powering .no-wish [] _ in
+    let x : ofTransfer i log event c ≡ [] = powering .no-transfer [] _ in
+    rw (t, s, w, x)
+
 pub idle-own : (i : ℕ) (log : List ℕ) (event : Event) (c : Chip) → Idle event → ofEvent i log event c ≡ []
 idle-own i log event c idle =
     let t : ofTicks event ≡ [] = idle .no-ticks [] _ in
@@ -55,7 +62,7 @@ idle-own i log event c idle =
     rw (t, s, w, x)
 
 -- an event that is taken, with the watch off before it and after
-module _ (i : ℕ) (log : List ℕ) (c : Chip) (off : c .watch ≡ Off) (h : i < length (c .fans)) where
+module _ (i : ℕ) (log : List ℕ) (c : Chip) (off : c .watch ≡ Off) (h : Has i c) where
   -- a sample or a wish, by the number of its fan
   for-fan : (fan : ℕ) (own : Own) → fanInRange fan ≡ true
       → fanOf i (onFan (fan - 1) (moveBy own) c) ≡ played (cond (eqb fan (i + 1)) (own ∷ []) []) (fanOf i c)
@@ -68,15 +75,15 @@ module _ (i : ℕ) (log : List ℕ) (c : Chip) (off : c .watch ≡ Off) (h : i <
       by-effect
       (λ (e : Event).
       rangeNumber log e ≡ 0 → isOff (taken log e c .watch) ≡ true → fanOf i (taken log e c) ≡ played (ofEvent i log e c) (fanOf i c))
-      (λ address r o. absurd (false≢true o))
-      (λ n r o. rw (append-nil (replicate n tick)) (fan-ticks c i n off h .0 ∙ played-ticks n (fanOf i c)))
+      (λ e on r o. absurd (false≢true (ap (λ (d : Chip). isOff (d .watch)) (sym (on .resets log c)) ∙ o)))
+      (λ n r o. rw (append-nil (replicate n tick)) (fan-ticks c i n off (h .0) (h .1) .0 ∙ played-ticks n (fanOf i c)))
       (λ fan n r o. rw (append-nil (ofSample i (Sample fan n)), off) (for-fan fan (sample n) (fan-right log (Sample fan n) r)))
       (λ fan drive r o. rw (append-nil (ofWish i (Wish fan drive))) (for-fan fan (wish drive) (fan-right log (Wish fan drive) r)))
       (λ to place n r o. reads-own i (getD log place 0) (getD log place 0) (fedChip c) h)
       (λ to place n r o. sent-own i (bytesAt log place n) (fedChip c) h)
       (λ e idle r o. rw (idle .leaves log c, idle-own i log e c idle))
 
-pub event-own : (h : Handed) (c : Chip) (i : ℕ) → i < length (c .fans) → watchOff h c ≡ true
+pub event-own : (h : Handed) (c : Chip) (i : ℕ) → Has i c → watchOff h c ≡ true
     → fanOf i (next h c) ≡ played (cond (isTaken h c) (ofEvent i (h .log) (h .event) c) []) (fanOf i c)
 unfolding played
 event-own h c i l quiet =
@@ -90,9 +97,9 @@ alone i c [] five l quiet = refl
 alone i c (h ∷ rest) five l quiet =
     let own = cond (isTaken h c) (ofEvent i (h .log) (h .event) c) [] in
     let q = first-rest emc2305 watchOff h rest c quiet in
-    both own (ownTraffic i rest (next h c)) (fanOf i c) (fanOf i (next h c)) _ (event-own h c i (omega arith) (q .0))
-    (alone i (next h c) rest (five-fans c (h .log) (h .event) (h .room) five) l (q .1))
+    both own (ownTraffic i rest (next h c)) (fanOf i c) (fanOf i (next h c)) _ (event-own h c i (has i c five l) (q .0))
+    (alone i (next h c) rest (five-fans c (h .log) (h .event) (h .room) five) (rw (off-part h c (q .0)) l) (q .1))
 
 pub no-fan-waits : NoFanWaits
 no-fan-waits i c d events others five quiet calm same-before same-traffic =
-    alone i c events (five .0) (five .2) quiet ∙ rw (same-before, same-traffic) (sym (alone i d others (five .1) (five .2) calm))
+    alone i c events (five .0) (five .2) quiet ∙ rw (same-before, same-traffic) (sym (alone i d others (five .1) (five .3) calm))

@@ -12,8 +12,8 @@ use borrow.Author.Tests.{leb-true, leb-false, eqb-true, eqb-false, not-true}
 use Rattle.laws.specs.Repeat.{repeated}
 use Rattle.laws.proofs.Tests.{by-test, and-left}
 use Rattle.eventlog.specs.declared.Event.{Event}
-use Rattle.eventlog.specs.declared.Event.the-variants.{PowerOn, Ticks, Sample, Wish, Transfer}
-use Rattle.eventlog.specs.Kinds.{ticksOf}
+use Rattle.eventlog.specs.declared.Event.the-variants.{Ticks, Sample, Wish, Transfer}
+use Rattle.eventlog.specs.Kinds.{isPowerOn, ticksOf}
 use Rattle.eventlog.specs.Range.{rangeNumber}
 use Rattle.eventlog.proofs.Ranges.{fan-right}
 use Rattle.emc2305_fan.specs.declared.Fan.{Fan}
@@ -33,11 +33,13 @@ use Rattle.emc2305_chip.specs.declared.Chip.{Chip}
 use Rattle.emc2305_chip.specs.Fans.{noFan}
 use Rattle.emc2305_chip.specs.Registers.{onFan}
 use Rattle.emc2305_chip.specs.Ticks.{chipTicked}
+use Rattle.emc2305_chip.proofs.Moves.{ticks-part}
 use Rattle.emc2305_chip.proofs.ChipTicks.{fan-ticks}
 use Rattle.emc2305_chip.proofs.Promises.{one-fan}
 use Rattle.emc2305.specs.Step.{taken}
 use Rattle.emc2305.specs.Traffic.{storesTo}
-use Rattle.emc2305.proofs.Effects.{by-effect}
+use Rattle.emc2305.proofs.Effects.{Powering, by-effect}
+use Rattle.emc2305.proofs.Parts.{after-part}
 use Rattle.emc2305.proofs.FansKept.{other-fans}
 use Rattle.walks.specs.Sequence.{Handed}
 use Rattle.emc2305_promises.specs.Ramp.{next, isTaken, fanOf, noPowerOn, noStoredWrite, noNewWish, noSampleStarts, watchOff, undisturbed, RampingFan, Ramping}
@@ -49,7 +51,7 @@ Ramped n i d g s u p c = Ramping i (moved d g (s * ((p + n) / u))) g s u ((p + n
 
 -- none leave it
 pub no-ticks : (i d g s u p : ℕ) (c : Chip) → Ramping i d g s u p c → Ramped 0 i d g s u p c
-no-ticks i d g s u p c r = rw (add-zero p, mod-eq-of-lt (r .7), div-eq-of-lt (r .7), mul-zero s, stays d g) r
+no-ticks i d g s u p c r = rw (add-zero p, mod-eq-of-lt (r .0 .7), div-eq-of-lt (r .0 .7), mul-zero s, stays d g) r
 
 -- a reading stands in registers past those that the ramp goes by
 reading-past : (f : Fan) (count k : ℕ) → k < 0xE → byteAt k (withReading count f) ≡ byteAt k f
@@ -128,7 +130,8 @@ module _ (i : ℕ) (h : Handed) (c : Chip) (q : undisturbed i h c ≡ true) wher
 
 -- ticks of the chip with the watch off
 pub chip-ticks : (n i d g s u p : ℕ) (c : Chip) → Ramping i d g s u p c → c .watch ≡ Off → Ramped n i d g s u p (repeated n chipTicked c)
-chip-ticks n i d g s u p c r w = rw (fan-ticks c i n w (there i c (r .0)) .0) (of-ticks d g s u p n (fanOf i c) r)
+chip-ticks n i d g s u p c r w =
+    (rw (fan-ticks c i n w (r .1) (there i c (r .0 .0)) .0) (of-ticks d g s u p n (fanOf i c) (r .0)), rw (ticks-part n c) (r .1))
 
 module _ (i d g s u p : ℕ) (log : List ℕ) (room : ℕ) (c : Chip) (r : Ramping i d g s u p c) where
   abbrev handed : Event → Handed
@@ -137,13 +140,17 @@ module _ (i d g s u p : ℕ) (log : List ℕ) (room : ℕ) (c : Chip) (r : Rampi
   abbrev fan : Chip → Fan
   fan = fanOf i
 
-  -- an event that leaves the fan
-  kept : (event : Event) → fan (next (handed event) c) ≡ fan c → Ramped 0 i d g s u p (next (handed event) c)
-  kept event e = no-ticks i d g s u p (next (handed event) c) (subst (RampingFan d g s u p) (sym e) r)
+  -- an event after which the fan is ramping as before
+  on : (event : Event) → isPowerOn event ≡ false → RampingFan d g s u p (fan (next (handed event) c)) → Ramped 0 i d g s u p (next (handed event) c)
+  on event none f = no-ticks i d g s u p (next (handed event) c) (f, rw (after-part log event room c none) (r .1))
+
+  -- and one that leaves the fan
+  kept : (event : Event) → isPowerOn event ≡ false → fan (next (handed event) c) ≡ fan c → Ramped 0 i d g s u p (next (handed event) c)
+  kept event none e = on event none (subst (RampingFan d g s u p) (sym e) (r .0))
 
   -- of the fan that a sample or a wish is for
   own : (k : ℕ) (move : Fan → Fan) → i ≡ k → fan (onFan k move c) ≡ move (fan c)
-  own k move e = subst (λ (k : ℕ). fan (onFan k move c) ≡ move (fan c)) e (one-fan c i move .0 (there i c (r .0)))
+  own k move e = subst (λ (k : ℕ). fan (onFan k move c) ≡ move (fan c)) e (one-fan c i move .0 (there i c (r .0 .0)))
 
   -- it ramps on over an event that is taken, by the ticks that the event holds
   abbrev RampsOn : Event → Type 0
@@ -151,11 +158,10 @@ module _ (i d g s u p : ℕ) (log : List ℕ) (room : ℕ) (c : Chip) (r : Rampi
       isTaken (handed event) c ≡ true → next (handed event) c ≡ taken log event c → rangeNumber log event ≡ 0
       → undisturbed i (handed event) c ≡ true → Ramped (ticksOf event) i d g s u p (next (handed event) c)
 
-  power-on-kept : (address : ℕ) → RampsOn (PowerOn address)
-  power-on-kept address t e ranged q =
-      let event = PowerOn address in
-      let none : not (isTaken (handed event) c && true) ≡ true = parts i (handed event) c q .0 in
-      absurd (false≢true (rw t at none))
+  power-on-kept : (event : Event) → Powering event → RampsOn event
+  power-on-kept event powering t e ranged q =
+      let none : not (isTaken (handed event) c && isPowerOn event) ≡ true = parts i (handed event) c q .0 in
+      absurd (false≢true (rw (t, powering .powers) at none))
 
   ticks-kept : (count : ℕ) → RampsOn (Ticks count)
   unfolding taken
@@ -171,9 +177,9 @@ module _ (i d g s u p : ℕ) (log : List ℕ) (room : ℕ) (c : Chip) (r : Rampi
       (λ y.
       let is : fan (next (handed event) c) ≡ f = ap fan e ∙ own (k - 1) (sampled count w) (eqb-true i (k - 1) y) in
       let none : not (not (fan c .spin .running) && fan (next (handed event) c) .spin .running) ≡ true = parts i (handed event) c q .3 in
-      let still : f .spin .running ≡ false = not-true (f .spin .running) (rw (r .1, is) at none) in
-      no-ticks i d g s u p (next (handed event) c) (subst (RampingFan d g s u p) (sym is) (of-sample d g s u p count w (fan c) still r)))
-      (λ n. kept event (other-fans c log room i .0 k count (eqb-false i (k - 1) n)))
+      let still : f .spin .running ≡ false = not-true (f .spin .running) (rw (r .0 .1, is) at none) in
+      on event refl (subst (RampingFan d g s u p) (sym is) (of-sample d g s u p count w (fan c) still (r .0))))
+      (λ n. kept event refl (other-fans c log room i .0 k count (eqb-false i (k - 1) n)))
 
   wish-kept : (k drive : ℕ) → RampsOn (Wish k drive)
   unfolding taken
@@ -185,24 +191,24 @@ module _ (i d g s u p : ℕ) (log : List ℕ) (room : ℕ) (c : Chip) (r : Rampi
       let at : i ≡ k - 1 = omega (arith, eqb-true k (i + 1) y) in
       let is : fan (next (handed event) c) ≡ wished drive (fan c) = ap fan e ∙ own (k - 1) (wished drive) at in
       let none : not (eqb k (i + 1) && not (eqb (fan (next (handed event) c) .wish) (fan c .wish))) ≡ true = parts i (handed event) c q .2 in
-      kept event (is ∙ of-wish drive (fan c) (rw (y, is) at none)))
-      (λ n. kept event (other-fans c log room i .1 k drive (λ at. eqb-false k (i + 1) n (omega arith))))
+      kept event refl (is ∙ of-wish drive (fan c) (rw (y, is) at none)))
+      (λ n. kept event refl (other-fans c log room i .1 k drive (λ at. eqb-false k (i + 1) n (omega arith))))
 
   read-kept : (to place n : ℕ) → RampsOn (Transfer true to place n)
   read-kept to place n t e ranged q =
-      let after = next (handed (Transfer true to place n)) c in
-      no-ticks i d g s u p after (of-status d g s u p (fan c) (fan after) (other-fans c log room i .3 to place n) r)
+      let event = Transfer true to place n in
+      on event refl (of-status d g s u p (fan c) (fan (next (handed event) c)) (other-fans c log room i .3 to place n) (r .0))
 
   write-kept : (to place n : ℕ) → RampsOn (Transfer false to place n)
   write-kept to place n t e ranged q =
       let event = Transfer false to place n in
       let none : not (isTaken (handed event) c && storesTo i log event c) ≡ true = parts i (handed event) c q .1 in
-      kept event (other-fans c log room i .2 to place n (not-true (storesTo i log event c) (rw t at none)))
+      kept event refl (other-fans c log room i .2 to place n (not-true (storesTo i log event c) (rw t at none)))
 
   of-taken : (event : Event) → RampsOn event
   of-taken =
       by-effect RampsOn power-on-kept ticks-kept sample-kept wish-kept read-kept write-kept
-      (λ event idle t e ranged q. let none : ticksOf event ≡ 0 = idle .no-ticks 0 _ in rw none (kept event (ap fan (e ∙ idle .leaves log c))))
+      (λ event idle t e ranged q. let none : ticksOf event ≡ 0 = idle .no-ticks 0 _ in rw none (kept event (idle .powers-none) (ap fan (e ∙ idle .leaves log c))))
 
 pub of-event : (i d g s u p : ℕ) (h : Handed) (c : Chip) → Ramping i d g s u p c → undisturbed i h c ≡ true
     → Ramped (cond (isTaken h c) (ticksOf (h .event)) 0) i d g s u p (next h c)

@@ -5,7 +5,6 @@ use mathlib.Core.List.{List}
 use Prim.Native.Nat.{ℕ, zero, suc, _+_, _-_, _%_, _≤_, _<_}
 use native.Mathlib.Omega.{arith}
 use lib.Dec.{eqb}
-use lib.ListN.{length}
 use borrow.Author.Tests.{lt-leb, eqb-true, eqb-false}
 use Rattle.laws.specs.Repeat.{repeated}
 use Rattle.laws.proofs.Repeat.{repeated-add}
@@ -20,6 +19,7 @@ use Rattle.emc2305_fan.specs.Spin.{tooSlow}
 use Rattle.emc2305_fan.specs.Status.{standing, other, stuck, bitRead}
 use Rattle.emc2305_fan.proofs.Statuses.{kept, status-read}
 use Rattle.emc2305_chip.specs.declared.Chip.{Chip}
+use Rattle.emc2305_chip.specs.State.{fanCount}
 use Rattle.emc2305_chip.specs.Map.{registerOf}
 use Rattle.emc2305_chip.specs.Watching.{fedChip}
 use Rattle.emc2305_chip.specs.Registers.{shownAt}
@@ -32,11 +32,12 @@ use Rattle.walks.specs.Sequence.{Handed}
 use Rattle.emc2305_promises.specs.Ramp.{fanOf}
 use Rattle.emc2305_promises.specs.Alone.{played, ofRead}
 use Rattle.emc2305_promises.specs.Held.{registerFor, replyByte, readFrom, Reads, readsAmong}
-use Rattle.emc2305_promises.proofs.OwnBytes.{reads-count, read-own}
+use Rattle.emc2305_promises.proofs.OwnBytes.{read-own}
+use Rattle.emc2305_promises.proofs.Events.{Has, has-reads, reads-part}
 
 -- reads: one byte, and k of them
 module _ (i : ℕ) (P : Fan → Type 0) where
-  one-read : (n : ℕ) (c : Chip) → i < length (c .fans) → P (fanOf i c)
+  one-read : (n : ℕ) (c : Chip) → Has i c → P (fanOf i c)
       → ((which : Bit) → c .pointer ≡ registerFor which → P (bitRead which (fanOf i c))) → P (fanOf i (byteRead n c))
   unfolding played
   one-read n c l p reads =
@@ -45,7 +46,7 @@ module _ (i : ℕ) (P : Fan → Type 0) where
       (by-test (eqb at 0x25) (λ t. rw t (reads Stall (eqb-true at 0x25 t)))
       (λ t. rw t (by-test (eqb at 0x26) (λ u. rw u (reads Spin (eqb-true at 0x26 u))) (λ u. rw u p))))
 
-  pub reads-keep : (n k : ℕ) (c : Chip) → i < length (c .fans) → P (fanOf i c)
+  pub reads-keep : (n k : ℕ) (c : Chip) → Has i c → P (fanOf i c)
       → ((j : ℕ) (which : Bit) → j < k → repeated j (byteRead n) c .pointer ≡ registerFor which → P (fanOf i (repeated j (byteRead n) c))
       → P (bitRead which (fanOf i (repeated j (byteRead n) c))))
       → P (fanOf i (repeated k (byteRead n) c))
@@ -53,26 +54,26 @@ module _ (i : ℕ) (P : Fan → Type 0) where
   reads-keep n zero c l p reads = p
   reads-keep n (suc k) c l p reads =
       let before = reads-keep n k c l p (λ j which h. reads j which (omega (arith, h))) in
-      one-read n (repeated k (byteRead n) c) (rw (reads-count n k c) l) before (λ which at. reads k which (omega arith) at before)
+      one-read n (repeated k (byteRead n) c) (has-reads i n k c l) before (λ which at. reads k which (omega arith) at before)
 
 -- a fan that is stuck is left by any read
-pub stuck-reads : (i n k : ℕ) (c : Chip) → i < length (c .fans) → stuck (fanOf i c) ≡ true → fanOf i (repeated k (byteRead n) c) ≡ fanOf i c
+pub stuck-reads : (i n k : ℕ) (c : Chip) → Has i c → stuck (fanOf i c) ≡ true → fanOf i (repeated k (byteRead n) c) ≡ fanOf i c
 stuck-reads i n k c l s =
     reads-keep i (λ (g : Fan). g ≡ fanOf i c) n k c l refl (λ j which h at e. ap (bitRead which) e ∙ kept which (fanOf i c) s)
 
 -- what a byte that is read from the bit's register shows
-shown-bit : (which : Bit) (i : ℕ) (c : Chip) → i < 5 → bit i (shownAt c (registerFor which)) ≡ standing which (fanOf i c)
+shown-bit : (which : Bit) (i : ℕ) (c : Chip) → i < fanCount c → bit i (shownAt c (registerFor which)) ≡ standing which (fanOf i c)
 unfolding shownAt registerOf
 shown-bit Stall i c h = status-bits c .2 i h .0
 shown-bit Spin i c h = status-bits c .2 i h .1
 
-pub reply-bit : (which : Bit) (i k : ℕ) (h : Handed) (c : Chip) → i < 5 → Reads (registerFor which) k h c
+pub reply-bit : (which : Bit) (i k : ℕ) (h : Handed) (c : Chip) → i < fanCount c → Reads (registerFor which) k h c
     → bit i (replyByte k h c) ≡ standing which (fanOf i (repeated k (byteRead (replyLength (h .log) (h .event))) (fedChip c)))
 unfolding replyTo
 reply-bit which i k h c l (t, short, from) =
     let n = replyLength (h .log) (h .event) in
     let d = repeated k (byteRead n) (fedChip c) in
-    ap (bit i) (reply-at n (fedChip c) n k short ∙ ap (shownAt d) from) ∙ shown-bit which i d l
+    ap (bit i) (reply-at n (fedChip c) n k short ∙ ap (shownAt d) from) ∙ shown-bit which i d (rw (reads-part n k (fedChip c)) l)
 
 -- a register that is not read
 pub not-among : (register n j : ℕ) (h : Handed) (c : Chip) → readsAmong register n h c ≡ false → j < n → readFrom j h c ≡ register → ⊥
@@ -116,7 +117,7 @@ gone-kept which read f p =
     by-bit which read (λ e. rw (e, status-read which f .0, p)) (λ e. other-kept which read f e ∙ p)
 
 -- a byte that is read from the bit's register
-pub read-there : (which : Bit) (i n : ℕ) (c : Chip) → i < length (c .fans) → c .pointer ≡ registerFor which → fanOf i (byteRead n c) ≡ bitRead which (fanOf i c)
+pub read-there : (which : Bit) (i n : ℕ) (c : Chip) → Has i c → c .pointer ≡ registerFor which → fanOf i (byteRead n c) ≡ bitRead which (fanOf i c)
 unfolding played
 read-there Stall i n c l at = read-own i n c l ∙ ap (λ (a : ℕ). played (ofRead a) (fanOf i c)) at
 read-there Spin i n c l at = read-own i n c l ∙ ap (λ (a : ℕ). played (ofRead a) (fanOf i c)) at
@@ -125,7 +126,7 @@ read-there Spin i n c l at = read-own i n c l ∙ ap (λ (a : ℕ). played (ofRe
 pub read-taken : (log : List ℕ) (event : Event) (c : Chip) → 0 < replyLength log event → taken log event c ≡ readOut (replyLength log event) (fedChip c)
 unfolding taken
 read-taken log event c =
-    by-effect (λ (e : Event). 0 < replyLength log e → taken log e c ≡ readOut (replyLength log e) (fedChip c)) (λ address h. absurd (omega (arith, h)))
+    by-effect (λ (e : Event). 0 < replyLength log e → taken log e c ≡ readOut (replyLength log e) (fedChip c)) (λ e on h. let none : replyLength log e ≡ 0 = on .no-transfer 0 _ in absurd (omega (arith, h)))
     (λ n h. absurd (omega (arith, h))) (λ fan n h. absurd (omega (arith, h))) (λ fan drive h. absurd (omega (arith, h))) (λ to place n h. refl)
     (λ to place n h. absurd (omega (arith, h)))
     (λ e idle h. let none : replyLength log e ≡ 0 = idle .no-transfer 0 _ in absurd (omega (arith, h)))

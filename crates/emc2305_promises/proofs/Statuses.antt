@@ -112,5 +112,5 @@ pub status-aside : StatusAside
 status-aside i c d events others five quiet calm same-before same-traffic =
     let f = fanOf i c in
     let g = fanOf i d in
-    rw (alone i c events (five .0) (five .2) quiet, alone i d others (five .1) (five .2) calm)
+    rw (alone i c events (five .0) (five .2) quiet, alone i d others (five .1) (five .3) calm)
     (plays (ownTraffic i events c) f f refl ∙ rw same-traffic (sym (plays (ownTraffic i others d) g f (sym same-before))))

@@ -18,7 +18,7 @@ use Rattle.emc2305_fan.specs.Stored.{written}
 use Rattle.emc2305_fan.specs.Tach.{sampled}
 use Rattle.emc2305_fan.specs.Status.{butStatus, bitRead}
 use Rattle.emc2305_chip.specs.declared.Chip.{Chip}
-use Rattle.emc2305_chip.specs.State.{withFans, withPointer}
+use Rattle.emc2305_chip.specs.State.{fanCount, withFans, withPointer}
 use Rattle.emc2305_chip.specs.Watching.{fedChip}
 use Rattle.emc2305.specs.Transfers.{byteWritten, byteRead}
 use Rattle.emc2305.specs.Traffic.{byteStoresTo}
@@ -102,7 +102,7 @@ abbrev pub Alone : Type 0
 Alone =
     (i : ℕ) (c : Chip) (events : List Handed)
     → length (c .fans) ≡ 5
-    → i < 5
+    → i < fanCount c
     → throughout watchOff events c ≡ true
     → fanOf i (afterAll events c) ≡ played (ownTraffic i events c) (fanOf i c)
 
@@ -110,7 +110,7 @@ Alone =
 abbrev pub NoFanWaits : Type 0
 NoFanWaits =
     (i : ℕ) (c d : Chip) (events others : List Handed)
-    → (length (c .fans) ≡ 5) × (length (d .fans) ≡ 5) × (i < 5)
+    → (length (c .fans) ≡ 5) × (length (d .fans) ≡ 5) × (i < fanCount c) × (i < fanCount d)
     → throughout watchOff events c ≡ true
     → throughout watchOff others d ≡ true
     → fanOf i c ≡ fanOf i d
@@ -130,14 +130,14 @@ butReads (read which ∷ rest) = butReads rest
 abbrev pub StatusAside : Type 0
 StatusAside =
     (i : ℕ) (c d : Chip) (events others : List Handed)
-    → (length (c .fans) ≡ 5) × (length (d .fans) ≡ 5) × (i < 5)
+    → (length (c .fans) ≡ 5) × (length (d .fans) ≡ 5) × (i < fanCount c) × (i < fanCount d)
     → throughout watchOff events c ≡ true
     → throughout watchOff others d ≡ true
     → butStatus (fanOf i c) ≡ butStatus (fanOf i d)
     → butReads (ownTraffic i events c) ≡ butReads (ownTraffic i others d)
     → butStatus (fanOf i (afterAll events c)) ≡ butStatus (fanOf i (afterAll others d))
 
--- two chips that are alike but for their other four fans, which may be in any state
+-- two chips that are alike but for their other fans, which may be in any state
 abbrev pub AlikeBut : ℕ → Chip → Chip → Type 0
 AlikeBut i c d = (withFans (d .fans) c ≡ d) × (fanOf i c ≡ fanOf i d)
 
@@ -145,7 +145,7 @@ AlikeBut i c d = (withFans (d .fans) c ≡ d) × (fanOf i c ≡ fanOf i d)
 abbrev pub OthersAside : Type 0
 OthersAside =
     (i : ℕ) (c d : Chip) (events : List Handed)
-    → (length (c .fans) ≡ 5) × (length (d .fans) ≡ 5) × (i < 5)
+    → (length (c .fans) ≡ 5) × (length (d .fans) ≡ 5) × (i < fanCount c)
     → AlikeBut i c d
     → throughout watchOff events c ≡ true
     → (throughout watchOff events d ≡ true)

@@ -10,6 +10,8 @@ use Rattle.eventlog.specs.declared.Event.the-variants.{PowerOn, Ticks, Transfer
 use Rattle.eventlog.specs.Numbers.{numberRead}
 use Rattle.eventlog.specs.Reading.{readAt}
 use Rattle.emc2305_fan.specs.declared.Fan.{Fan}
+use Rattle.emc2305_parts.specs.declared.Part.the-variants.{Emc2305}
+use Rattle.emc2305_parts.specs.Parts.{resetOf}
 use Rattle.emc2305_fan.specs.Registers.{powerOn}
 use Rattle.emc2305_fan.specs.Tick.{ticked}
 use Rattle.emc2305_fan.specs.Stored.{written}
@@ -30,13 +32,17 @@ firsts (suc n) at = firsts n at ++ (at n ∷ [])
 abbrev pub updateRow : ℕ → ℕ → ℕ → ℕ → List ℕ
 updateRow n d g s = firsts n (λ (k : ℕ). afterUpdates (k + 1) d g s)
 
--- the default fan, Setting 80h at drive 0
+-- the default fan, of the five-fan part
+abbrev pub defaultFan : Fan
+defaultFan = powerOn (resetOf Emc2305 .fan)
+
+-- that fan, Setting 80h at drive 0
 abbrev pub fanAt80 : Fan
-fanAt80 = written 0x0 0x80 powerOn
+fanAt80 = written 0x0 0x80 defaultFan
 
 -- the default fan, Setting 80h at drive 0, with Configuration 2 bit 6 set first
 abbrev pub rampedAt80 : Fan
-rampedAt80 = written 0x0 0x80 (written 0x3 0x68 powerOn)
+rampedAt80 = written 0x0 0x80 (written 0x3 0x68 defaultFan)
 
 -- the stall bit of the default fan at drive 128, no spin-up, no watch, after a sample
 abbrev pub stallBit : ℕ → ℕ
@@ -87,7 +93,7 @@ examples =
     ∷ (firsts 41 (driveAfter fanAt80), replicate 10 255 ++ (replicate 30 153 ++ (128 ∷ [])))
     ∷ (map (driveAfter rampedAt80) (40 ∷ 72 ∷ 104 ∷ []), 153 ∷ 137 ∷ 128 ∷ [])
     ∷ (map stallBit (7871 ∷ 7872 ∷ []), 0 ∷ 1 ∷ [])
-    ∷ (shownBelow 256 (chipAfter (Ticks 319 ∷ [])), allDefaults)
+    ∷ (shownBelow 256 (chipAfter (Ticks 319 ∷ [])), allDefaults Emc2305)
     ∷ (registersThen (Ticks 320 ∷ []) settings, 0xFF ∷ 0xFF ∷ 0xFF ∷ 0xFF ∷ 0xFF ∷ 0x80 ∷ [])
     ∷ (registersThen (Ticks 320 ∷ write31 ∷ []) (0x30 ∷ []), 0xFF ∷ [])
     ∷ (readNumber (0x9C ∷ []) ∷ [], 1 ∷ [])

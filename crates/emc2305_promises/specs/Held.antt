@@ -17,6 +17,7 @@ use Rattle.emc2305_fan.specs.Spin.{tooSlow}
 use Rattle.emc2305_fan.specs.Tach.{countHigh}
 use Rattle.emc2305_fan.specs.Status.{standing}
 use Rattle.emc2305_chip.specs.declared.Chip.{Chip}
+use Rattle.emc2305_chip.specs.State.{fanCount}
 use Rattle.emc2305_chip.specs.Watching.{fedChip}
 use Rattle.emc2305.specs.Transfers.{byteRead}
 use Rattle.emc2305.specs.Step.{replyTo}
@@ -69,7 +70,7 @@ held i h c = ltb 0 (fanOf i c .drive) && (noPowerOn h c && (noGoodSample i h c &
 abbrev pub HeldRotor : Type 0
 HeldRotor =
     (which : Bit) (i k : ℕ) (c : Chip) (events : List Handed) (h : Handed)
-    → (length (c .fans) ≡ 5) × (i < 5)
+    → (length (c .fans) ≡ 5) × (i < fanCount c)
     → tooSlow (fanOf i c) ≡ true
     → throughout (held i) events c ≡ true
     → let later : Chip = afterAll events c in
@@ -95,7 +96,7 @@ ticksCanSet Spin f = f .spin .running
 abbrev pub HeldSame : Type 0
 HeldSame =
     (which : Bit) (i k : ℕ) (c : Chip) (events : List Handed) (h : Handed)
-    → (length (c .fans) ≡ 5) × (i < 5)
+    → (length (c .fans) ≡ 5) × (i < fanCount c)
     → tooSlow (fanOf i c) ≡ true
     → ticksCanSet which (fanOf i c) ≡ false
     → throughout (driven i) events c ≡ true
@@ -113,7 +114,7 @@ unread register i h c = noReadOf register h c && leftAlone i h c
 abbrev pub RotorTurns : Type 0
 RotorTurns =
     (which : Bit) (i k count room : ℕ) (log : List ℕ) (c : Chip) (events : List Handed) (h : Handed)
-    → (length (c .fans) ≡ 5) × (i < 5)
+    → (length (c .fans) ≡ 5) × (i < fanCount c)
     → let sample : Handed = record { log = log; event = Sample (i + 1) count; room = room } in
     isTaken sample c ≡ true
     → countHigh count ≤ validCount (fanOf i c)

@@ -10,6 +10,7 @@ use Rattle.emc2305_fan.specs.Ramp.{moved}
 use Rattle.emc2305_fan.specs.Drive.{goal, underRamp, step, period}
 use Rattle.emc2305_watchdog.specs.Watch.{isOff}
 use Rattle.emc2305_chip.specs.declared.Chip.{Chip}
+use Rattle.emc2305_chip.specs.State.{fanCount}
 use Rattle.emc2305_chip.specs.Fans.{fanAt}
 use Rattle.emc2305.specs.Traffic.{storesTo, isSample, isWishFor}
 use Rattle.walks.specs.Sequence.{Handed}
@@ -71,9 +72,9 @@ RampingFan d g s u p f =
     (underRamp f ≡ true) × (f .spin .running ≡ false)
     × (f .drive ≡ d) × (goal f ≡ g) × (step f ≡ s) × (period f ≡ u) × (f .clock ≡ p) × (p < u)
 
--- such is fan i + 1
+-- such is fan i + 1, which the chip has
 abbrev pub Ramping : ℕ → ℕ → ℕ → ℕ → ℕ → ℕ → Chip → Type 0
-Ramping i d g s u p c = RampingFan d g s u p (fanOf i c)
+Ramping i d g s u p c = RampingFan d g s u p (fanOf i c) × (i < fanCount c)
 
 -- after any such events its drive is d moved toward g by the smaller of the distance and s times the whole part of (p + t) / u; goal, step and period
 -- are as they were, it is still under ramp control and not spinning up, and its clock is at the remainder of (p + t) / u. It holds of a chip without power too.
