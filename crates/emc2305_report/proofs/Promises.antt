@@ -1,13 +1,13 @@
 -- The promises of the EMC2305's report of speeds (specs/Promises.antt).
 use mathlib.Core.Path.{_≡_, refl, sym, _∙_}
-use mathlib.Core.Bool.{Bool, false}
+use mathlib.Core.Bool.{Bool, false, true≢false}
 use mathlib.Core.List.{List}
-use Prim.Native.Nat.{ℕ, _-_}
+use Prim.Native.Nat.{ℕ, _-_, _<_}
 use native.Mathlib.Omega.{arith}
 use lib.Dec.{eqb}
 use lib.ListN.{set}
 use lib.Seq.{getD-set-other}
-use borrow.Author.Tests.{le-leb, ne-eqb}
+use borrow.Author.Tests.{le-leb, lt-ltb, ne-eqb}
 use Rattle.laws.proofs.Lists.{set-keeps}
 use Rattle.laws.proofs.Tests.{by-test}
 use Rattle.eventlog.specs.declared.Event.the-variants.{Sample}
@@ -17,7 +17,7 @@ use Rattle.windows.proofs.Buffers as buffers
 use Rattle.windows.proofs.Cuttings as cuttings
 use Rattle.windows.proofs.Advances as advances
 use Rattle.reports.specs.Adding.{report}
-use Rattle.reports.specs.Samples.{samplesFrom}
+use Rattle.reports.specs.Samples.{isTaken, samplesFrom}
 use Rattle.reports.proofs.Tellers as tellers
 use Rattle.reports.proofs.Limits as limits
 use Rattle.reports.proofs.Longer as longer
@@ -29,11 +29,13 @@ use Rattle.emc2305_fan.specs.Tach.{countHigh, countLow, sampled}
 use Rattle.emc2305_fan.proofs.Kept.{registers-after}
 use Rattle.emc2305_watchdog.specs.Watch.{inPowerUp}
 use Rattle.emc2305_chip.specs.declared.Chip.{Chip}
+use Rattle.emc2305_chip.specs.State.{fanCount}
 use Rattle.emc2305_chip.specs.Fans.{noFan, fanAt}
 use Rattle.emc2305.specs.Step.{stepNumber, taken, stepped}
+use Rattle.emc2305.proofs.Numbers.{step-numbers, numbered}
 use Rattle.emc2305_run.proofs.Steps.{lawful}
 use Rattle.emc2305_report.specs.Speeds.{gauge, speedsOf}
-use Rattle.emc2305_report.specs.Promises.{Numbers, Shown, FansApart, SameReport, FiguresFit, LimitRule, AsRun, AfterLimit, LaterAside, AnyCutting, Kept, Onward, Finishes, EndedWants}
+use Rattle.emc2305_report.specs.Promises.{Numbers, Shown, FansApart, AbsentAside, SameReport, FiguresFit, LimitRule, AsRun, AfterLimit, LaterAside, AnyCutting, Kept, Onward, Finishes, EndedWants}
 use Rattle.emc2305_report.proofs.Fits.{speed-fits}
 
 -- of poles in range no number but the report's own
@@ -55,6 +57,7 @@ numbers poles log = (
   own-number poles log 8 (λ z. omega arith) (λ z. omega arith) (refl, λ z. omega arith),
   own-number poles log 6 (λ z. omega arith) (λ z. omega arith) (refl, λ z. omega arith),
   own-number poles log 7 (λ z. omega arith) (λ z. omega arith) (refl, λ z. omega arith),
+  own-number poles log 21 (λ z. omega arith) (λ z. omega arith) (refl, λ z. omega arith),
 )
 
 pub shown : Shown
@@ -72,7 +75,7 @@ keeps-one : (c : Chip) (log : List ℕ) (other count room i : ℕ)
     → configuration1 (fanAt (stepped c log (Sample other count) room .chip .fans) i) ≡ configuration1 (fanAt (c .fans) i)
 unfolding stepped taken
 keeps-one c log other count room i =
-    by-test (eqb (stepNumber (c .powered) (c .address) log (Sample other count) room) 0)
+    by-test (eqb (stepNumber (c .part) (c .powered) (c .address) log (Sample other count) room) 0)
     (λ y.
     rw y
     (set-keeps configuration1 (c .fans) (other - 1) (sampled count (inPowerUp (c .watch)) (fanAt (c .fans) (other - 1))) i noFan
@@ -85,6 +88,23 @@ fans-apart poles log c other count fan place next rest = (
   keeps-one c log other count 32 (fan - 1),
   λ z. rw (ne-eqb other fan z) refl,
 )
+
+-- a sample of an absent fan is not taken
+absent-number : (c : Chip) (log : List ℕ) (other count : ℕ) → fanCount c < other
+    → eqb (stepNumber (c .part) (c .powered) (c .address) log (Sample other count) 32) 0 ≡ false
+absent-number c log other count h =
+    ne-eqb _ 0
+    (λ e.
+    true≢false
+    (sym (lt-ltb (fanCount c) other h) ∙ step-numbers (c .part) (c .powered) (c .address) log (Sample other count) 32 .5 .0 e .2))
+
+pub absent-aside : AbsentAside
+unfolding stepped samplesFrom
+absent-aside poles log c other count fan place next rest h =
+    let n = absent-number c log other count h in
+    let same : stepped c log (Sample other count) 32 .chip ≡ c = rw n refl in
+    let no : isTaken (gauge poles) log (Sample other count) c ≡ false = rw (numbered c log (Sample other count) 32, n) refl in
+    (same, by-test (eqb other fan) (λ y. rw (y, no, same) refl) (λ f. rw (f, same) refl))
 
 module _ (poles : ℕ) where
   pub steady : Steady (report (gauge poles))

@@ -4,7 +4,7 @@ use mathlib.Core.Path.{_≡_}
 use mathlib.Core.Logic.{_↔_}
 use mathlib.Core.Bool.{true, false}
 use mathlib.Core.List.{List, _∷_}
-use Prim.Native.Nat.{ℕ, _≤_}
+use Prim.Native.Nat.{ℕ, _≤_, _<_}
 use Rattle.eventlog.specs.declared.Event.the-variants.{Sample}
 use Rattle.records.specs.Records.{Found}
 use Rattle.windows.specs.Promises as windows
@@ -13,9 +13,10 @@ use Rattle.reports.specs.Adding.{report}
 use Rattle.reports.specs.Promises as reports
 use Rattle.emc2305_speed.specs.Speed.{polesRight, rpm}
 use Rattle.emc2305_chip.specs.declared.Chip.{Chip}
+use Rattle.emc2305_chip.specs.State.{fanCount}
 use Rattle.emc2305_report.specs.Speeds.{gauge, refused, speedsOf}
 
--- 13 just where the poles are outside 1 to 4, and then all else is 0; never 8, and neither 6 nor 7, after which it walks on
+-- 13 just where the poles are outside 1 to 4, and then all else is 0; never 8, and none of 6, 7 and 21, after which it walks on
 abbrev pub Numbers : Type 0
 Numbers =
     (poles : ℕ) (log : List ℕ)
@@ -24,6 +25,7 @@ Numbers =
     × (speedsOf poles log .number ≡ 8 → ⊥)
     × (speedsOf poles log .number ≡ 6 → ⊥)
     × (speedsOf poles log .number ≡ 7 → ⊥)
+    × (speedsOf poles log .number ≡ 21 → ⊥)
 
 -- of poles in range, a sample with a count above 0 is shown with its RPM
 abbrev pub Shown : Type 0
@@ -37,6 +39,14 @@ FansApart =
     × ((other ≡ fan → ⊥)
     → samplesFrom (gauge poles) log fan (record { place = place; event = Sample other count; next = next } ∷ rest) c
     ≡ samplesFrom (gauge poles) log fan rest (nextOn (gauge poles) log (Sample other count) c))
+
+-- a sample of a fan that the chip does not have leaves the chip as it was, and counts nowhere
+abbrev pub AbsentAside : Type 0
+AbsentAside =
+    (poles : ℕ) (log : List ℕ) (c : Chip) (other count fan place next : ℕ) (rest : List Found) → fanCount c < other
+    → (nextOn (gauge poles) log (Sample other count) c ≡ c)
+    × (samplesFrom (gauge poles) log fan (record { place = place; event = Sample other count; next = next } ∷ rest) c
+    ≡ samplesFrom (gauge poles) log fan rest c)
 
 -- what is told of a log, a window at a time, is the text of its report
 abbrev pub SameReport : Type 0
