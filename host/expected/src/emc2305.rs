@@ -2,6 +2,7 @@
 
 mod bench;
 mod fans;
+mod parts;
 mod refusals;
 mod registers;
 mod status;
@@ -44,5 +45,7 @@ pub fn script() -> Script {
     fans::cases(&mut bench);
     refusals::cases(&mut bench);
     traffic::cases(&mut bench);
+    parts::cases(&mut bench);
+    traffic::part_cases(&mut bench);
     bench.script
 }

@@ -1,7 +1,7 @@
 //! The cases of the program eventlog_test: reader, writer and range test.
 
 use crate::chance::Chance;
-use crate::events::{clock, name, power_on, sample, send, ticks, wish, words, LARGEST, WRAPPING};
+use crate::events::{clock, name, part_on, power_on, sample, send, ticks, wish, words, LARGEST, WRAPPING};
 use crate::script::{byte, bytes, code, hex_or, rows, Script};
 use model::log::{check, read, write, Event, Fault, MARK};
 
@@ -23,6 +23,7 @@ pub fn script() -> Script {
     plain_write_cases(&mut script);
     transfer_write_cases(&mut script);
     pair_write_cases(&mut script);
+    part_write_cases(&mut script);
     room_cases(&mut script);
     damaged_cases(&mut script);
     script
@@ -108,8 +109,8 @@ fn write_case(script: &mut Script, event: &Event, log: &[u8], room: u8) {
     script.add(b'w', &[&[room], &fields(event)[..], log].concat(), &line);
 }
 
-/// An event in six bytes: kind, a small field, a count in two, a place, a length. A transfer that reads has 13 for its
-/// kind, which is no record's: 6 and those after it are free for kinds to come.
+/// An event in six bytes: kind, a small field, a count in two, a place, a length. A part's number of fans is the count's low
+/// byte. A transfer that reads has 13 for its kind, which is no record's: 7 and those after it are free for kinds to come.
 fn fields(event: &Event) -> [u8; 6] {
     match *event {
         Event::PowerOn { address } => [1, address, 0, 0, 0, 0],
@@ -122,6 +123,7 @@ fn fields(event: &Event) -> [u8; 6] {
             place,
             length,
         } => [if read { 13 } else { 5 }, address, 0, 0, code(place), code(length)],
+        Event::PowerOnPart { address, fans } => [6, address, fans, 0, 0, 0],
     }
 }
 
@@ -167,7 +169,7 @@ fn good_records() -> Vec<Vec<u8>> {
         "9C46 01 01 00, 9C46 01 01 7F, 9C46 02 02 00 00, 9C46 02 02 2C 01, 9C46 02 02 FF FF, 9C46 03 03 01 00 00, \
          9C46 03 03 05 FF 1F, 9C46 04 02 01 00, 9C46 04 02 05 FF, 9C46 05 01 00, 9C46 05 01 FE, 9C46 05 02 58 30",
     );
-    let after = rows("9C46 05 02 01 01, 9C46 05 02 FF 20");
+    let after = rows("9C46 05 02 01 01, 9C46 05 02 FF 20, 9C46 06 02 00 01, 9C46 06 02 2C 02, 9C46 06 02 7F 03");
     [before, vec![longest_write()], after].concat()
 }
 
@@ -178,7 +180,9 @@ fn sent() -> Vec<u8> {
 
 fn reading_cases(script: &mut Script) {
     // the document's examples, and its reading order
-    for log in rows("9C, 9D, 9C46 02 09, 9C46 05 14 58, 9C 47, 46, 9C46 06, 9C46 06 01, 9D46 06 01") {
+    for log in
+        rows("9C, 9D, 9C46 02 09, 9C46 05 14 58, 9C 47, 46, 9C46 07, 9C46 07 01, 9D46 07 01, 9C46 06, 9C46 06 01")
+    {
         read_case(script, &log, 0);
     }
     // places: of each record, within one, at the end, past it
@@ -198,11 +202,11 @@ fn cut_cases(script: &mut Script) {
     let before = rows(
         "9C46 01 01 2C, 9C46 02 02 2C 01, 9C46 03 03 05 FF 1F, 9C46 04 02 05 FF, 9C46 05 01 58, 9C46 05 03 58 30 80",
     );
-    let after = rows("9C46 05 02 59 01");
+    let after = rows("9C46 05 02 59 01, 9C46 06 02 2C 02");
     // records that are refused once enough of them is there
     let refused = rows(
-        "9D46 01 01 2C, 9C47 01 01 2C, 9D47 01 01 2C, 9C46 06 01 2C, 9C46 01 02 2C 00, 9C46 01 01 80, \
-         9C46 03 03 00 00 20, 9C46 03 03 01 00 20, 9C46 04 02 06 00, 9C46 05 01 59, 9C46 05 02 59 00, \
+        "9D46 01 01 2C, 9C47 01 01 2C, 9D47 01 01 2C, 9C46 07 01 2C, 9C46 01 02 2C 00, 9C46 01 01 80, \
+         9C46 06 01 2C, 9C46 06 02 80 02, 9C46 06 02 80 05, 9C46 06 02 2C 05, 9C46 03 03 00 00 20, 9C46 03 03 01 00 20, 9C46 04 02 06 00, 9C46 05 01 59, 9C46 05 02 59 00, \
          9C46 05 03 59 01 01, 9C46 05 03 59 00 00",
     );
     for record in [before, vec![longest_write()], after, refused].concat() {
@@ -223,7 +227,7 @@ fn head_cases(script: &mut Script) {
     ] {
         vary_case(script, &bytes(record), at);
     }
-    for kind in 1..=5 {
+    for kind in 1..=6 {
         vary_case(script, &headed(&format!("9C46 0{kind} 00"), 2, 33), 3);
     }
     vary_case(script, &headed("9C46 05 00", 3, 33), 3);
@@ -232,6 +236,7 @@ fn head_cases(script: &mut Script) {
     vary_case(script, &headed("9C46 05 00", 3, 32), 3);
     vary_case(script, &bytes("9C46 05 00"), 3);
     vary_case(script, &bytes("9C46 01 00"), 3);
+    vary_case(script, &bytes("9C46 06 00"), 3);
 }
 
 fn field_cases(script: &mut Script) {
@@ -248,6 +253,9 @@ fn field_cases(script: &mut Script) {
         ("9C46 05 02 58 01", 4),
         ("9C46 05 02 58 01", 5),
         ("9C46 05 02 59 01", 5),
+        ("9C46 06 02 00 01", 4),
+        ("9C46 06 02 00 01", 5),
+        ("9C46 06 02 7F 01", 5),
     ] {
         vary_case(script, &bytes(record), at);
     }
@@ -268,6 +276,13 @@ fn pair_cases(script: &mut Script) {
         ("9C46 04 02 00 00", 5),
     ] {
         vary_case(script, &bytes(record), at);
+    }
+    // a part's address and its number of fans
+    for fans in [0, 3, 4, 5, 255] {
+        vary_case(script, &record(6, &[0, fans]), 4);
+    }
+    for address in [0x2C, 0x80, 0xFF] {
+        vary_case(script, &record(6, &[address, 0]), 5);
     }
     // a read's n and the clocked number
     for n in 2..=33 {
@@ -291,6 +306,9 @@ fn edge_records() -> Vec<Vec<u8>> {
         }
         records.extend([0, 255].map(|drive| record(4, &[fan, drive])));
     }
+    for address in [0, 127, 128, 255] {
+        records.extend([0, 1, 2, 3, 4, 5, 6, 127, 128, 254, 255].map(|fans| record(6, &[address, fans])));
+    }
     records.push(record(5, &[0x59]));
     for clocked in [0, 1, 32, 33, 255] {
         records.extend([2, 3, 4, 32, 33].map(|n| read_record(n, clocked)));
@@ -310,8 +328,8 @@ fn edge_cases(script: &mut Script) {
 /// What is no field, behind other records: the place goes on with theirs.
 fn behind_cases(script: &mut Script) {
     for rest in rows(
-        "9C, 9C46, 9C46 01, 9C46 06, 9D, 9C47, 9D47, 9C9D 01 01 80, 9C46 00 00, 9C46 06 01 2C, 9C46 01 02 80 00, \
-         9C46 02 09, 9C46 05 00, 9C46 05 22, 9C46 03 03 00, 9C46 05 14 58, 9C46 05 02 59, 9C46 05 03 59 00",
+        "9C, 9C46, 9C46 01, 9C46 06, 9D, 9C47, 9D47, 9C9D 01 01 80, 9C46 00 00, 9C46 07 01 2C, 9C46 01 02 80 00, \
+         9C46 06 02, 9C46 06 02 80, 9C46 06 01 80, 9C46 06 03 2C 05 00, 9C46 02 09, 9C46 05 00, 9C46 05 22, 9C46 03 03 00, 9C46 05 14 58, 9C46 05 02 59, 9C46 05 03 59 00",
     ) {
         let before = bytes(EXAMPLE);
         read_case(script, &[&before[..], &rest].concat(), before.len());
@@ -405,6 +423,18 @@ fn pair_write_cases(script: &mut Script) {
     }
 }
 
+/// Every number of fans with addresses on both sides of their edge, whatever the room.
+fn part_write_cases(script: &mut Script) {
+    for address in [0, 127, 128, 255] {
+        for fans in 0..=255 {
+            write_case(script, &part_on(address, fans), &[], 8);
+        }
+        for fans in [0, 1, 3, 4, 5, 255] {
+            write_case(script, &part_on(address, fans), &sent(), 0);
+        }
+    }
+}
+
 fn room_cases(script: &mut Script) {
     // one byte too few, exactly enough, none
     for (event, length) in [
@@ -416,6 +446,7 @@ fn room_cases(script: &mut Script) {
         (send(44, 5, 1), 6),
         (send(44, 5, 32), 37),
         (clock(44, 1, 1), 6),
+        (part_on(44, 2), 6),
     ] {
         for room in [length - 1, length, 0] {
             write_case(script, &event, &sent(), room);
@@ -431,6 +462,8 @@ fn room_cases(script: &mut Script) {
         send(44, 4, 33),
         send(44, 38, 0),
         clock(44, 0, 1),
+        part_on(128, 2),
+        part_on(44, 5),
     ] {
         write_case(script, &event, &sent(), 0);
     }

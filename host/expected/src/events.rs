@@ -22,6 +22,11 @@ pub fn power_on(address: u8) -> Event {
     Event::PowerOn { address }
 }
 
+/// The power-on of a part with so many fans.
+pub fn part_on(address: u8, fans: u8) -> Event {
+    Event::PowerOnPart { address, fans }
+}
+
 pub fn ticks(count: u16) -> Event {
     Event::Ticks { count }
 }
@@ -63,6 +68,7 @@ pub fn name(event: &Event) -> &'static str {
         Event::Wish { .. } => "wish",
         Event::Transfer { read: false, .. } => "send",
         Event::Transfer { read: true, .. } => "clock",
+        Event::PowerOnPart { .. } => "part-on",
     }
 }
 
@@ -77,6 +83,7 @@ pub fn words(event: &Event) -> String {
         Event::Transfer {
             address, place, length, ..
         } => format!("{name} {address} {place} {length}"),
+        Event::PowerOnPart { address, fans } => format!("{name} {address} {fans}"),
     }
 }
 

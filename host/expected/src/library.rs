@@ -5,11 +5,11 @@ use crate::chance::Chance;
 use crate::emc2305::traffic::any_sent;
 use crate::emc2305::{at, CONFIGURATION, FANS, HOME, LOCK};
 use crate::events;
-use crate::logs::{clock, power_on, power_on_at, sample, send, send_to, ticks};
+use crate::logs::{clock, part_on, power_on, power_on_at, sample, send, send_to, ticks};
 use crate::logs::{example, random_logs, short, sprinkled, stops, traffic, truncations, unpowered, written_logs};
 use crate::script::{bytes, hex_or, Script};
 use model::chip::{CONFIGURATION_1, SETTING};
-use model::log::{read, write, Event, ADDRESS, BYTES, COUNT, FAN, UNKNOWN_KIND};
+use model::log::{read, write, Event, ADDRESS, BYTES, COUNT, FAN, NUMBER_OF_FANS, UNKNOWN_KIND};
 use model::replay::run;
 use model::speeds::{rpm, rpm_by_high_byte, speeds as report};
 use std::collections::BTreeSet;
@@ -45,7 +45,7 @@ pub fn script() -> Script {
     for log in logs {
         read_cases(&mut script, &log);
     }
-    for kind in [0, 1, 2, 3, 4, 5, 6, 255] {
+    for kind in [0, 1, 2, 3, 4, 5, 6, 7, 255] {
         all_write_cases(&mut script, kind);
     }
     script
@@ -101,7 +101,14 @@ const MOST_SAMPLES: usize = 65_535;
 /// that have too many samples.
 fn all_speeds_cases(script: &mut Script, of_runs: &[Vec<u8>]) {
     for poles in POLES {
-        for log in [vec![], unpowered(), measured(), every_configuration(), bytes("9D")] {
+        for log in [
+            vec![],
+            unpowered(),
+            measured(),
+            measured_parts(),
+            every_configuration(),
+            bytes("9D"),
+        ] {
             speeds_cases(script, poles, 26, &log);
         }
     }
@@ -174,6 +181,21 @@ fn measured() -> Vec<u8> {
     .concat()
 }
 
+/// A sample of every fan on each part in turn, its Configuration 1 written where there is one, and on all five.
+fn measured_parts() -> Vec<u8> {
+    let mut log = Vec::new();
+    for start in [part_on(1), part_on(2), part_on(3), power_on(), part_on(2)] {
+        log.extend(start);
+        for fan in FANS {
+            log.extend(sample(fan, 700 + u16::from(fan)));
+            log.extend(send(&[at(fan, CONFIGURATION_1), 0x08 * fan]));
+            log.extend(sample(fan, 900));
+            log.extend(sample(fan, 0));
+        }
+    }
+    log
+}
+
 /// Every byte of Configuration 1 with a sample, fan by fan.
 fn every_configuration() -> Vec<u8> {
     let mut log = power_on();
@@ -205,12 +227,13 @@ fn any_measure(chance: &Chance) -> Vec<u8> {
         14..17 => send_to(chance.among(&[HOME, HOME, HOME + 1]), &any_sent(chance)),
         17 => ticks(chance.below(400)),
         18 => clock(32),
+        19 if chance.one_in(2) => part_on(chance.among(&[1, 2, 3])),
         _ => power_on_at(chance.among(&[HOME, HOME + 1])),
     }
 }
 
 /// As many samples as a report takes, and one more: of zero counts alone, of both sorts, of all fans at once; and where those
-/// before power-on are refused, so that there are not too many.
+/// before power-on or of an absent fan are refused, so that there are not too many; and of a fan that is absent for a while.
 fn full_logs() -> Vec<Vec<u8>> {
     let zeros = [power_on(), sample(3, 0).repeat(MOST_SAMPLES), sample(3, 9)].concat();
     let both = [sample(5, 0), sample(5, 8191), sample(5, 1)].concat();
@@ -218,7 +241,22 @@ fn full_logs() -> Vec<Vec<u8>> {
     let all: Vec<u8> = FANS.into_iter().flat_map(|fan| sample(fan, 5)).collect();
     let all = [power_on(), all.repeat(MOST_SAMPLES), sample(4, 5)].concat();
     let early = [sample(2, 1).repeat(MOST_SAMPLES + 1), power_on(), sample(2, 1)].concat();
-    [vec![zeros, both, all, early], fastest_logs()].concat()
+    let absent = [
+        part_on(1),
+        sample(2, 1).repeat(MOST_SAMPLES + 1),
+        part_on(2),
+        sample(2, 1),
+    ]
+    .concat();
+    let gone = [
+        zeros[..zeros.len() - 7].to_vec(),
+        part_on(2),
+        sample(3, 9).repeat(2),
+        part_on(3),
+    ]
+    .concat();
+    let back = [&gone[..], &sample(3, 9)].concat();
+    [vec![zeros, both, all, early, absent, gone, back], fastest_logs()].concat()
 }
 
 /// The greatest total that there is, and behind it no sample, one, one of another fan and one after a power-on, and one that
@@ -294,6 +332,7 @@ fn event_numbers(event: &Event) -> String {
             place,
             length,
         } => format!("5 {address} {} {place} {length}", u8::from(read)),
+        Event::PowerOnPart { address, fans } => format!("6 {address} {fans} 0 0"),
     }
 }
 
@@ -307,7 +346,7 @@ fn all_write_cases(script: &mut Script, kind: u8) {
         vec![vec![], vec![1], vec![0; 40]]
     };
     for unit in [0, 1, 5, 6, 127, 128, 255] {
-        for value in [0, 1, 2, 255, 256, 8191, 8192, 65535] {
+        for value in [0, 1, 2, 3, 4, 5, 255, 256, 257, 8191, 8192, 65535] {
             for bytes in &sent {
                 write_cases(script, kind, unit, value, bytes);
             }
@@ -328,7 +367,7 @@ fn sent() -> Vec<Vec<u8>> {
 /// No room, one byte too few, the record's own length, and plenty.
 fn write_cases(script: &mut Script, kind: u8, unit: u8, value: u16, sent: &[u8]) {
     let length = match kind {
-        2 | 4 => 6,
+        2 | 4 | 6 => 6,
         3 => 7,
         5 => 5 + sent.len(),
         _ => 5,
@@ -354,9 +393,9 @@ fn write_answer(kind: u8, unit: u8, value: u16, room: usize, sent: &[u8]) -> Str
     format!("{numbers} {}", hex_or(".", &buffer))
 }
 
-/// The event that numbers stand for; 3 for an unknown kind. A drive or a direction that is none has the number of its
-/// byte in a record, where no earlier byte is at fault: a drive 9, that of what follows the fan; a direction 10, as it
-/// shares the address byte.
+/// The event that numbers stand for; 3 for an unknown kind. A drive, a direction or a number of fans that is no byte has the
+/// number of its byte in a record, where no earlier byte is at fault: a drive 9, that of what follows the fan; a direction 10,
+/// as it shares the address byte; a number of fans 15.
 fn event_of_numbers(kind: u8, unit: u8, value: u16, length: usize) -> Result<Event, u8> {
     match (kind, value) {
         (1, _) => Ok(events::power_on(unit)),
@@ -369,6 +408,9 @@ fn event_of_numbers(kind: u8, unit: u8, value: u16, length: usize) -> Result<Eve
         (5, 1) => Ok(events::clock(unit, 0, length)),
         (5, _) if length > MOST_BYTES => Err(BYTES),
         (5, _) => Err(ADDRESS),
+        (6, 0..=255) => Ok(events::part_on(unit, value as u8)),
+        (6, _) if unit > 127 => Err(ADDRESS),
+        (6, _) => Err(NUMBER_OF_FANS),
         _ => Err(UNKNOWN_KIND),
     }
 }

@@ -18,6 +18,11 @@ pub fn power_on_at(address: u8) -> Vec<u8> {
     record(&events::power_on(address), &[])
 }
 
+/// A part with so many fans.
+pub fn part_on(fans: u8) -> Vec<u8> {
+    record(&events::part_on(HOME, fans), &[])
+}
+
 pub fn ticks(count: u16) -> Vec<u8> {
     record(&events::ticks(count), &[])
 }
@@ -82,17 +87,18 @@ fn ones(head: &str, count: usize) -> Vec<Vec<u8>> {
 /// Endings by the log's end, the mark, the kind and the length.
 fn head_endings() -> Vec<(u8, Vec<Vec<u8>>)> {
     let cut = rows(
-        "9C, 9C46, 9C46 01, 9C46 06, 9C46 01 01, 9C46 02 02, 9C46 02 02 2C, 9C46 03 03 00 FF, 9C46 04 02 06, \
+        "9C, 9C46, 9C46 01, 9C46 07, 9C46 01 01, 9C46 06 02, 9C46 06 02 80, 9C46 02 02, 9C46 02 02 2C, 9C46 03 03 00 FF, 9C46 04 02 06, \
          9C46 05 01, 9C46 05 14 58, 9C46 05 02 59, 9C46 05 03 59 00, 9C46 05 21",
     );
     let marks = rows(
-        "9D, 00, 46, FF, 9C47, 9D46, 469C, 9C9C, 9D46 01 01 2C, 9C47 01 01 2C, 9C9C 46 01 01 2C, 9D46 06 00, 9C47 01",
+        "9D, 00, 46, FF, 9C47, 9D46, 469C, 9C9C, 9D46 01 01 2C, 9C47 01 01 2C, 9C9C 46 01 01 2C, 9D46 07 00, 9C47 01",
     );
-    let kinds =
-        rows("9C46 00 00, 9C46 00 01 2C, 9C46 06 00, 9C46 06 01 2C, 9C46 06 FF, 9C46 FF 00, 9C46 9C 46, 9C46 81 01 2C");
+    let kinds = rows(
+        "9C46 00 00, 9C46 00 01 2C, 9C46 07 00, 9C46 07 02 2C 02, 9C46 07 FF, 9C46 FF 00, 9C46 9C 46, 9C46 81 01 2C",
+    );
     let lengths = rows(
         "9C46 01 00, 9C46 01 02 2C 00, 9C46 01 FF, 9C46 02 01 00, 9C46 02 03 00 00 00, 9C46 02 09, 9C46 03 02 01 00, \
-         9C46 03 04 01 00 00 00, 9C46 04 01 01, 9C46 04 03 01 00 00, 9C46 05 00",
+         9C46 03 04 01 00 00 00, 9C46 04 01 01, 9C46 04 03 01 00 00, 9C46 06 00, 9C46 06 01 80, 9C46 06 03 2C 02 00, 9C46 05 00",
     );
     let after_lengths = rows("9C46 05 22, 9C46 05 FF 59 01");
     vec![
@@ -110,7 +116,8 @@ fn field_endings() -> Vec<(u8, Vec<Vec<u8>>)> {
          9C46 03 03 FF FF FF, 9C46 04 02 00 00, 9C46 04 02 06 FF, 9C46 04 02 FF 80",
     );
     let counts = rows("9C46 03 03 01 00 20, 9C46 03 03 03 01 20, 9C46 03 03 05 FF FF, 9C46 03 03 02 00 80");
-    let addresses = rows("9C46 01 01 FF, 9C46 01 01 AC, 9C46 01 01 80");
+    let addresses = rows("9C46 01 01 FF, 9C46 01 01 AC, 9C46 06 02 80 02, 9C46 06 02 FF 05, 9C46 01 01 80");
+    let numbers = rows("9C46 06 02 2C 00, 9C46 06 02 7F FF, 9C46 06 02 00 04, 9C46 06 02 2C 05");
     let reads = rows(
         "9C46 05 01 59, 9C46 05 01 FF, 9C46 05 03 59 01 01, 9C46 05 03 59 00 00, 9C46 05 04 5B 21 01 01, \
          9C46 05 02 59 00, 9C46 05 02 59 21, 9C46 05 02 59 FF, 9C46 05 02 5B 00",
@@ -120,6 +127,7 @@ fn field_endings() -> Vec<(u8, Vec<Vec<u8>>)> {
         (9, counts),
         (10, addresses),
         (11, [ones("9C46 05 21 59", 32), reads].concat()),
+        (15, numbers),
     ]
 }
 
@@ -185,6 +193,28 @@ pub fn sweep() -> Vec<u8> {
     log
 }
 
+/// Each part in turn, and kind 1 between them: all registers, samples and wishes for every fan, writes to every Setting, the
+/// status bits, and the watch.
+pub fn parts() -> Vec<u8> {
+    let mut log = Vec::new();
+    for start in [part_on(2), power_on(), part_on(1), part_on(3), part_on(2)] {
+        log.extend(start);
+        log.extend(send(&[0x24]));
+        for fan in FANS {
+            log.extend(sample(fan, 100 * u16::from(fan)));
+            log.extend(wish(fan, 9));
+            log.extend(send(&[at(fan, SETTING), 0x80]));
+        }
+        log.extend(ticks(40));
+        log.extend(FANS.map(|fan| sample(fan, 8191)).concat());
+        log.extend(clock(32).repeat(4));
+        log.extend(send(&[CONFIGURATION, 0x60]));
+        log.extend(ticks(320));
+        log.extend(clock(32).repeat(8));
+    }
+    log
+}
+
 // ---- logs that look random ----
 
 fn any_address(chance: &Chance) -> u8 {
@@ -228,7 +258,8 @@ fn any_record(chance: &Chance) -> Vec<u8> {
         40..66 => any_clock(chance),
         66..82 => any_ticks(chance),
         82..90 => any_sample(chance),
-        90..97 => wish(chance.among(&FANS), chance.below(256)),
+        90..96 => wish(chance.among(&FANS), chance.below(256)),
+        96 => part_on(chance.among(&[1, 2, 3])),
         _ => power_on_at(chance.among(&[HOME, HOME, chance.below(128)])),
     }
 }
@@ -254,7 +285,7 @@ fn head(kind: u8, length: u8) -> Vec<u8> {
 pub fn sprinkled(chance: &Chance, length: usize) -> Vec<u8> {
     let mut log = power_on();
     while log.len() < length {
-        let kind = chance.below(7);
+        let kind = chance.below(8);
         let n = chance.among(&[0, 1, 2, 3, chance.below(40)]);
         let head = head(kind, n);
         let whole = any_record(chance);
@@ -288,6 +319,7 @@ pub fn written_logs() -> Vec<Vec<u8>> {
         unpowered(),
         other_addresses(),
         sweep(),
+        parts(),
         [power_on(), send(&[CONFIGURATION, 0x60]), ticks(65535), clock(32)].concat(),
     ];
     for before in [vec![], power_on(), example(), unpowered()] {
@@ -305,7 +337,7 @@ pub fn random_logs(seed: u64, count: usize) -> Vec<(String, Vec<u8>)> {
         add("damaged", damaged(&chance, 1 + chance.below::<usize>(12)));
         add("sprinkled", sprinkled(&chance, chance.below(120)));
         add("noise", chance.bytes(chance.below(24)));
-        let head = head(1 + chance.below::<u8>(5), chance.among(&[1, 2, 2, 3, chance.below(36)]));
+        let head = head(1 + chance.below::<u8>(6), chance.among(&[1, 2, 2, 3, chance.below(36)]));
         let behind = chance.bytes(chance.among(&[1, 2, 3, 33, chance.below(40)]));
         add("noise behind a head", [head, behind].concat());
     }

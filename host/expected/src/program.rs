@@ -4,8 +4,8 @@
 use crate::chance::Chance;
 use crate::events::LONGEST_RECORD;
 use crate::logs::{
-    clock, example, other_addresses, power_on, power_on_at, random_logs, sample, send, short, stops, sweep, ticks,
-    traffic, truncations, unpowered, wish,
+    clock, example, other_addresses, part_on, parts, power_on, power_on_at, random_logs, sample, send, short, stops,
+    sweep, ticks, traffic, truncations, unpowered, wish,
 };
 use crate::script::{bytes, hex, Script};
 use crate::windows::{damaged, filler, in_pieces, WINDOW};
@@ -40,7 +40,7 @@ fn add(script: &mut Script, name: &str, log: &[u8]) {
 // ---- short logs ----
 
 /// Document 01's examples and a few others, with their listings.
-fn written_out() -> [(&'static str, Vec<u8>, &'static str); 12] {
+fn written_out() -> [(&'static str, Vec<u8>, &'static str); 16] {
     [
         ("document 01's example", example(), "0 0\n5 0\n12 0 FF\nend 18\n"),
         ("no bytes", vec![], "end 0\n"),
@@ -52,6 +52,22 @@ fn written_out() -> [(&'static str, Vec<u8>, &'static str); 12] {
         ("count 8192", bytes("9C 46 03 03 01 00 20"), "0 9\nstop 0\n"),
         ("address 128", bytes("9C 46 01 01 80"), "0 10\nstop 0\n"),
         ("33 bytes clocked", bytes("9C 46 05 02 59 21"), "0 11\nstop 0\n"),
+        ("five fans by kind 6", bytes("9C 46 06 02 2C 05"), "0 15\nstop 0\n"),
+        ("address 128 and no fans", bytes("9C 46 06 02 80 00"), "0 10\nstop 0\n"),
+        ("kind 7", bytes("9C 46 07 02 2C 02"), "0 3\nstop 0\n"),
+        (
+            "a two-fan part",
+            [
+                sample(3, 1),
+                part_on(2),
+                sample(3, 1),
+                wish(3, 1),
+                send(&[0x4E]),
+                clock(4),
+            ]
+            .concat(),
+            "0 6\n7 0\n13 21\n20 21\n26 0\n32 0 FF F8 00 00\nend 38\n",
+        ),
         (
             "6 and 7 last",
             [clock(1), power_on_at(5), clock(1)].concat(),
@@ -79,6 +95,7 @@ fn short_logs(script: &mut Script) {
     add(script, "unpowered", &unpowered());
     add(script, "other_addresses", &other_addresses());
     add(script, "sweep", &sweep());
+    add(script, "parts", &parts());
     for (name, log) in random_logs(2305, 6) {
         add(script, &name, &log);
     }
@@ -101,6 +118,9 @@ fn across() -> [(&'static str, Vec<u8>); 3] {
         send(&[0x70]),
         clock(16),
         power_on(),
+        clock(32),
+        part_on(2),
+        sample(3, 1),
         clock(32),
     ];
     [

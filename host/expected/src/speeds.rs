@@ -7,8 +7,8 @@ use crate::chance::Chance;
 use crate::emc2305::{at, FANS, HOME};
 use crate::events::LONGEST_RECORD;
 use crate::logs::{
-    clock, example, other_addresses, power_on, power_on_at, random_logs, sample, send, send_to, stops, sweep, ticks,
-    traffic, truncations, unpowered, wish,
+    clock, example, other_addresses, part_on, parts, power_on, power_on_at, random_logs, sample, send, send_to, stops,
+    sweep, ticks, traffic, truncations, unpowered, wish,
 };
 use crate::script::{bytes, hex, Script};
 use crate::windows::{damaged, filler, in_pieces, WINDOW};
@@ -90,6 +90,13 @@ fn few() -> Vec<u8> {
     .concat()
 }
 
+/// Samples of fan 2 on each part and on all five, and of fan 4, which only the five have.
+fn on_parts() -> Vec<u8> {
+    let each = [part_on(2), part_on(1), part_on(3), power_on()];
+    each.map(|start| [start, sample(2, 1000), sample(4, 1)].concat())
+        .concat()
+}
+
 /// Logs with their reports. The speed of the default fan at two poles is 7864320 over the count, that of m 8 and nine
 /// edges 62914560 over it.
 fn written_out() -> Vec<(&'static str, &'static str, Vec<u8>, String)> {
@@ -113,6 +120,19 @@ fn written_out() -> Vec<(&'static str, &'static str, Vec<u8>, String)> {
             format!("{none}; stop 0 2"),
         ),
         ("a few samples", "2", few(), format!("{few_lines}; end 98")),
+        (
+            "samples on parts",
+            "2",
+            on_parts(),
+            "1 0 0 0 0 0; 2 3 7864 7864 23592 0; 3 0 0 0 0 0; 4 1 7864320 7864320 7864320 0; 5 0 0 0 0 0; end 79"
+                .into(),
+        ),
+        (
+            "five fans by kind 6",
+            "2",
+            bytes("9C 46 06 02 2C 05"),
+            format!("{none}; stop 0 15"),
+        ),
     ]
 }
 
@@ -135,6 +155,9 @@ fn short_logs(script: &mut Script) {
     add(script, "unpowered", "1", &unpowered());
     add(script, "other addresses", "1", &other_addresses());
     add(script, "sweep", "1", &sweep());
+    for argument in ["1", "2", "3", "4"] {
+        add(script, &format!("parts, {argument} poles"), argument, &parts());
+    }
     for ((name, log), argument) in random_logs(2, 20)
         .into_iter()
         .zip(["1", "2", "3", "4"].into_iter().cycle())
@@ -206,6 +229,22 @@ fn limits(script: &mut Script) {
         (
             "a power-on behind a full fan",
             past(&at_limit, &[power_on(), sample(1, 1)]),
+        ),
+        (
+            "a full fan that is absent",
+            past(&zeros, &[part_on(2), sample(3, 0).repeat(3), sample(2, 9)]),
+        ),
+        (
+            "a full fan that is absent and back",
+            past(&zeros, &[part_on(1), sample(3, 9), part_on(3), sample(3, 9)]),
+        ),
+        (
+            "samples of an absent fan and a full one",
+            [part_on(2), sample(3, 1).repeat(9), zeros.clone()].concat(),
+        ),
+        (
+            "65,535 samples on a part",
+            [part_on(1), full(1, 8191), part_on(2), sample(2, 1), sample(1, 1)].concat(),
         ),
         (
             "refused samples and a full fan",

@@ -1,6 +1,6 @@
 //! The chip: registers, drives, spin-up, tachometer and watchdog.
 
-use crate::log::{check, Event, NO_ROOM, OTHER_ADDRESS, UNPOWERED};
+use crate::log::{check, Event, ABSENT_FAN, NO_ROOM, OTHER_ADDRESS, UNPOWERED};
 
 /// Registers: offsets within a fan's sixteen registers.
 pub const SETTING: usize = 0x0;
@@ -33,8 +33,8 @@ const MASK: u8 = 0x80;
 const WD_EN: u8 = 0x20;
 /// Registers: "Once bit 0 of EFh is 1".
 const LOCK: u8 = 0x01;
-/// Registers: "29h interrupt enable (00h, bits 0..4 for fans 1..5)".
-const ALL_FANS: u8 = 0x1F;
+/// CR 5: "kind 1 means five".
+const MOST_FANS: usize = 5;
 /// Drive: "Closed loop is Configuration 1 bit 7."
 const LOOP: u8 = 0x80;
 /// Drive: "in direct mode when Configuration 2 bit 6 is 1".
@@ -332,11 +332,14 @@ pub enum Watch {
     Continuous { count: u16 },
 }
 
-/// The chip: "The state of the chip holds its five fans side by side."
+/// The chip: "The state of the chip holds its five fans side by side." CR 5: "The chip record carries how many fans it
+/// has, 1, 2, 3 or 5"; the others are absent, and nothing changes or shows them.
 #[derive(Clone, Debug, PartialEq, Eq)]
 pub struct Chip {
     /// The bus address; none before the first power-on.
     pub address: Option<u8>,
+    /// How many fans it has, from fan 1 on.
+    pub present: usize,
     pub pointer: u8,
     /// 20h.
     pub configuration: u8,
@@ -353,14 +356,15 @@ pub struct Chip {
     /// EFh.
     pub lock: u8,
     pub watch: Watch,
-    pub fans: [Fan; 5],
+    pub fans: [Fan; MOST_FANS],
 }
 
 impl Chip {
-    /// "A run over a whole log begins unpowered."
+    /// "A run over a whole log begins unpowered." CR 5, as read: "An unpowered chip has five fans".
     pub fn unpowered() -> Chip {
         Chip {
             address: None,
+            present: MOST_FANS,
             pointer: 0,
             configuration: CONFIGURATION_DEFAULT,
             watch_status: false,
@@ -370,11 +374,11 @@ impl Chip {
             pwm: [0; 4],
             lock: 0,
             watch: Watch::Off,
-            fans: [Fan::power_on(); 5],
+            fans: [Fan::power_on(); MOST_FANS],
         }
     }
 
-    /// A step: the numbers of the fields, then 6, 7, 8; CR 3: "without a place". "A refusal leaves state and buffers
+    /// A step: the numbers of the fields, then 6, 21, 7, 8; CR 3: "without a place". "A refusal leaves state and buffers
     /// unchanged".
     pub fn step(&mut self, event: &Event, log: &[u8], room: &mut [u8]) -> Result<usize, u8> {
         check(event, log)?;
@@ -384,14 +388,16 @@ impl Chip {
     /// The rest of a step: an event whose fields are in their ranges, as `log::read` gives it.
     #[inline] // a run is slower without
     pub(crate) fn take(&mut self, event: &Event, log: &[u8], room: &mut [u8]) -> Result<usize, u8> {
-        if self.address.is_none() && !matches!(event, Event::PowerOn { .. }) {
+        let power_on = matches!(event, Event::PowerOn { .. } | Event::PowerOnPart { .. });
+        if self.address.is_none() && !power_on {
             return Err(UNPOWERED);
         }
         match *event {
-            Event::PowerOn { address } => self.power_on(address),
+            Event::PowerOn { address } => self.power_on(address, MOST_FANS),
+            Event::PowerOnPart { address, fans } => self.power_on(address, fans.into()),
             Event::Ticks { count } => self.ticks(count),
-            Event::Sample { fan, count } => self.sample(usize::from(fan - 1), count),
-            Event::Wish { fan, drive } => self.fans[usize::from(fan - 1)].take_wish(drive),
+            Event::Sample { fan, count } => self.sample(self.present_fan(fan)?, count),
+            Event::Wish { fan, drive } => self.fans[self.present_fan(fan)?].take_wish(drive),
             Event::Transfer {
                 address,
                 read,
@@ -405,16 +411,33 @@ impl Chip {
     }
 
     /// Status: "The alert line is on when MASK is 0 and WATCH is set or a 25h or 26h bit stands whose fan's bit in 29h
-    /// is 1."
+    /// is 1." CR 5, as read: of 29h "its bits for absent fans do nothing."
     pub fn alert(&self) -> bool {
-        let fans = (self.stall_status | self.spin_status) & self.interrupt_enable & ALL_FANS;
+        let fans = (self.stall_status | self.spin_status) & self.interrupt_enable & self.present_bits();
         self.configuration & MASK == 0 && (self.watch_status || fans != 0)
     }
 
-    /// Registers: "Power-on sets every default, unlocked"; Watchdog: "power-up watch starts at power-on".
-    fn power_on(&mut self, address: u8) {
+    /// CR 5: "21 for a sample or wish for an absent fan"; the index of one that is present.
+    fn present_fan(&self, fan: u8) -> Result<usize, u8> {
+        let index = usize::from(fan - 1);
+        if index < self.present {
+            Ok(index)
+        } else {
+            Err(ABSENT_FAN)
+        }
+    }
+
+    /// Status: "bit i - 1 for fan i", of the fans that are present.
+    fn present_bits(&self) -> u8 {
+        (1 << self.present) - 1
+    }
+
+    /// Registers: "Power-on sets every default, unlocked"; Watchdog: "power-up watch starts at power-on". CR 5: "its bytes
+    /// are Table 5.1's", of every part.
+    fn power_on(&mut self, address: u8, present: usize) {
         *self = Chip {
             address: Some(address),
+            present,
             watch: Watch::PowerUp { count: 0 },
             ..Chip::unpowered()
         };
@@ -431,17 +454,18 @@ impl Chip {
     }
 
     /// Each fan's ramp, by its registers now.
-    fn ramps(&self) -> [Option<Ramp>; 5] {
+    fn ramps(&self) -> [Option<Ramp>; MOST_FANS] {
         self.fans.each_ref().map(Fan::ramp)
     }
 
-    /// Watchdog: "In a tick the watchdog acts first; if it fires the fans don't move in it." True when it fires.
-    fn tick(&mut self, ramps: &[Option<Ramp>; 5]) -> bool {
+    /// Watchdog: "In a tick the watchdog acts first; if it fires the fans don't move in it." CR 5: "watchdog and ticks pass"
+    /// absent fans by. True when it fires.
+    fn tick(&mut self, ramps: &[Option<Ramp>; MOST_FANS]) -> bool {
         if self.watch_expires() {
             self.fire();
             return true;
         }
-        for (index, (fan, &ramp)) in self.fans.iter_mut().zip(ramps).enumerate() {
+        for (index, (fan, &ramp)) in self.fans[..self.present].iter_mut().zip(ramps).enumerate() {
             if fan.tick_by(ramp) {
                 self.spin_status |= 1 << index;
             }
@@ -463,7 +487,7 @@ impl Chip {
     /// Watchdog: "At 320: WATCH set; every fan [...]. Power-up watch ends; continuous counts again from 0."
     fn fire(&mut self) {
         self.watch_status = true;
-        self.fans.iter_mut().for_each(Fan::full_drive);
+        self.fans[..self.present].iter_mut().for_each(Fan::full_drive);
         self.watch = match self.watch {
             Watch::Continuous { .. } => Watch::Continuous { count: 0 },
             Watch::PowerUp { .. } | Watch::Off => Watch::Off,
@@ -510,11 +534,13 @@ impl Chip {
         self.move_pointer(data_bytes);
     }
 
-    /// Registers: bytes read in turn from this register up, within its row: a fan's, one of the three that have others,
-    /// or one of undefined registers, which read 00h.
+    /// Registers: bytes read in turn from this register up, within its row: a fan's that is present, one of the three that
+    /// have others, or one of undefined registers, which read 00h. CR 5: "Registers of absent fans are undefined".
     fn read_row(&mut self, register: u8, row: &mut [u8]) {
         match register {
-            0x30..=0x7F => self.fans[fan_index(register)].read_row(offset(register), row),
+            0x30..=0x7F if fan_index(register) < self.present => {
+                self.fans[fan_index(register)].read_row(offset(register), row);
+            }
             0x20..=0x2F | 0xE0..=0xFF => {
                 for (register, byte) in (register..=0xFF).zip(row) {
                     *byte = self.read_register(register);
@@ -550,11 +576,13 @@ impl Chip {
         }
     }
 
-    /// Registers: bytes written in turn from this register up, within its row: a fan's, one of the two that have other
-    /// writable ones, or one that stores nothing.
+    /// Registers: bytes written in turn from this register up, within its row: a fan's that is present, one of the two that
+    /// have other writable ones, or one that stores nothing.
     fn write_row(&mut self, register: u8, row: &[u8]) {
         match register {
-            0x30..=0x7F => self.write_fan(fan_index(register), offset(register), row),
+            0x30..=0x7F if fan_index(register) < self.present => {
+                self.write_fan(fan_index(register), offset(register), row);
+            }
             0x20..=0x2F | 0xE0..=0xEF => {
                 for (register, &byte) in (register..=0xFF).zip(row) {
                     self.write_register(register, byte);
@@ -586,9 +614,9 @@ impl Chip {
         }
     }
 
-    /// CR 1: bit i - 1 for each fan i whose status a read leaves.
+    /// CR 1: bit i - 1 for each fan i whose status a read leaves; CR 5: of absent fans "status bits stay 0".
     fn fans_that_keep_status(&self) -> u8 {
-        let bits = self.fans.iter().enumerate();
+        let bits = self.fans[..self.present].iter().enumerate();
         bits.map(|(index, fan)| u8::from(fan.keeps_status()) << index).sum()
     }
 

@@ -262,12 +262,13 @@ fn damaged_records() {
     for (damage, number) in [
         (&[0x9C, 0x46, 0x03, 0x03, 0x01, 0x01][..], 1),
         (&[0x9D, 0x46, 0x03, 0x03, 0x01, 0x01, 0x00], 2),
-        (&[0x9C, 0x46, 0x06, 0x03, 0x01, 0x01, 0x00], 3),
+        (&[0x9C, 0x46, 0x07, 0x03, 0x01, 0x01, 0x00], 3),
         (&[0x9C, 0x46, 0x03, 0x02, 0x01, 0x01], 4),
         (&[0x9C, 0x46, 0x03, 0x03, 0x06, 0x01, 0x00], 5),
         (&[0x9C, 0x46, 0x03, 0x03, 0x01, 0x00, 0x20], 9),
         (&[0x9C, 0x46, 0x01, 0x01, 0x80], 10),
         (&[0x9C, 0x46, 0x05, 0x02, 0x59, 0x00], 11),
+        (&[0x9C, 0x46, 0x06, 0x02, 0x2C, 0x05], 15),
     ] {
         let after = if number == 1 { vec![] } else { sample(1, 1) };
         let log = [&before, damage, &after].concat();
@@ -375,8 +376,8 @@ fn zero_counts_at_the_limit() {
     }
 }
 
-// CR 2: 14 comes "after that record's own refusals". A step refuses no sample of a chip that has taken one: 6 alone could,
-// and there is no way back to an unpowered chip. Reading does.
+// CR 2: 14 comes "after that record's own refusals": those of reading. A step's is 21, which tests/parts.rs has; 6 cannot be,
+// as there is no way back to an unpowered chip.
 #[test]
 fn refusals_of_the_sample_past_the_limit() {
     let before = full(MOST_SAMPLES);

@@ -137,6 +137,14 @@ impl Bench {
         self.happen(b'P', &[address], &events::power_on(address), &[]);
     }
 
+    pub fn part_on(&mut self, fans: u8) {
+        self.part_on_at(HOME, fans);
+    }
+
+    pub fn part_on_at(&mut self, address: u8, fans: u8) {
+        self.happen(b'Q', &[address, fans], &events::part_on(address, fans), &[]);
+    }
+
     pub fn ticks(&mut self, count: u16) {
         self.happen(b'K', &count.to_le_bytes(), &events::ticks(count), &[]);
     }

@@ -203,3 +203,33 @@ pub fn cases(bench: &mut Bench) {
     }
     bench.registers();
 }
+
+/// Events on parts, with another power-on among them now and then: of any part, of five fans, or refused.
+pub fn part_cases(bench: &mut Bench) {
+    bench.title("mixed traffic on parts");
+    let chance = Chance::new(230_123_022_303);
+    for _ in 0..30 {
+        bench.room(4);
+        bench.part_on(chance.among(&[1, 2, 3]));
+        if !chance.one_in(4) {
+            lively(bench, &chance);
+        }
+        for _ in 0..50 {
+            if chance.one_in(30) {
+                any_power_on(bench, &chance);
+            } else {
+                any_event(bench, &chance);
+            }
+        }
+    }
+    bench.registers();
+}
+
+fn any_power_on(bench: &mut Bench, chance: &Chance) {
+    let address = chance.among(&mostly(6, HOME, &[chance.below(128), chance.below(256)]));
+    match chance.below(5) {
+        0u8 => bench.power_on_at(address),
+        1 => bench.part_on_at(address, chance.among(&[0, 4, 5, 255])),
+        _ => bench.part_on_at(address, chance.among(&[1, 2, 3])),
+    }
+}
