@@ -22,36 +22,48 @@ extern "C" {
 #endif
 
 /* Goes up whenever a function or a constant of this file changes, or what a function of the library answers. Version 1 had no macro, and gave
- * 5 for what is 5, 9, 10 and 11 now. Version 2 had no speeds. */
-#define COBBLEHARD_VERSION 3
+ * 5 for what is 5, 9, 10 and 11 now. Version 2 had no speeds. Version 3 had the part with five fans alone: no kind 6, no 15 and no 21. */
+#define COBBLEHARD_VERSION 4
 
-/* Numbers given back. A run walks on after 6 and 7, and no function here returns them. There is no 12. */
+/* Parts. Kind 1 powers on an EMC2305, which has five fans; kind 6 powers on an EMC2301, EMC2302 or EMC2303, by its number of fans, 1, 2 or 3.
+ * Each power-on sets everything back, and the part is that of the last one. A fan above the part's number is absent. Its registers are
+ * undefined: they read 00h and store nothing. Its bits of 25h and 26h stay 0, and that of 29h is stored and does nothing. A sample or a wish
+ * for it is refused with 21. All else is as in an EMC2305.
+ *
+ * So are the identity bytes. The parts' own data sheets were not at hand, so the bytes are those of Table 5.1 in the EMC2305's, and FDh, the
+ * product, shows 34h in every part. Linux's driver expects 35h there of an EMC2303, 36h of an EMC2302 and 37h of an EMC2301: a driver that
+ * goes by FDh takes each of them for an EMC2305. */
+
+/* Numbers given back. A run walks on after 6, 7 and 21, and no function here returns them. There is no 12, and none from 16 to 20. */
 enum cobblehard_number {
-    COBBLEHARD_TAKEN = 0,            /* taken */
-    COBBLEHARD_CUT_SHORT = 1,        /* the log ends inside a record */
-    COBBLEHARD_WRONG_MARK = 2,       /* a mark byte is wrong: of as many as are there */
-    COBBLEHARD_UNKNOWN_KIND = 3,     /* unknown kind */
-    COBBLEHARD_WRONG_LENGTH = 4,     /* length not allowed for the kind */
-    COBBLEHARD_WRONG_FAN = 5,        /* no such fan: outside 1..5 */
-    COBBLEHARD_NO_POWER = 6,         /* event before any power-on: any but a power-on */
-    COBBLEHARD_ELSEWHERE = 7,        /* transfer to another address */
-    COBBLEHARD_NO_ROOM = 8,          /* buffer too short: for the reply or record */
-    COBBLEHARD_WRONG_COUNT = 9,      /* count out of range: of a tach sample, above 8191; of a wish to be written, a drive above 255 */
-    COBBLEHARD_WRONG_ADDRESS = 10,   /* address out of range: above 127 */
-    COBBLEHARD_WRONG_BYTES = 11,     /* length or clocked number of a transfer out of range: a read's length byte is not 2, or its clocked
-                                        number outside 1..32; of a transfer to be written also more than 32 bytes */
-    COBBLEHARD_WRONG_POLES = 13,     /* poles out of range: outside 1..4 */
-    COBBLEHARD_TOO_MANY_SAMPLES = 14 /* too many samples of a fan: above 65,535 in a report of speeds */
+    COBBLEHARD_TAKEN = 0,             /* taken */
+    COBBLEHARD_CUT_SHORT = 1,         /* the log ends inside a record */
+    COBBLEHARD_WRONG_MARK = 2,        /* a mark byte is wrong: of as many as are there */
+    COBBLEHARD_UNKNOWN_KIND = 3,      /* unknown kind */
+    COBBLEHARD_WRONG_LENGTH = 4,      /* length not allowed for the kind */
+    COBBLEHARD_WRONG_FAN = 5,         /* no such fan: outside 1..5 */
+    COBBLEHARD_NO_POWER = 6,          /* event before any power-on: any but a power-on */
+    COBBLEHARD_ELSEWHERE = 7,         /* transfer to another address */
+    COBBLEHARD_NO_ROOM = 8,           /* buffer too short: for the reply or record */
+    COBBLEHARD_WRONG_COUNT = 9,       /* count out of range: of a tach sample, above 8191; of a wish to be written, a drive above 255 */
+    COBBLEHARD_WRONG_ADDRESS = 10,    /* address out of range: above 127 */
+    COBBLEHARD_WRONG_BYTES = 11,      /* length or clocked number of a transfer out of range: a read's length byte is not 2, or its clocked
+                                         number outside 1..32; of a transfer to be written also more than 32 bytes */
+    COBBLEHARD_WRONG_POLES = 13,      /* poles out of range: outside 1..4 */
+    COBBLEHARD_TOO_MANY_SAMPLES = 14, /* too many samples of a fan: above 65,535 in a report of speeds */
+    COBBLEHARD_WRONG_FANS = 15,       /* number of fans out of range: of a part, other than 1, 2 or 3; five fans are kind 1 */
+    COBBLEHARD_ABSENT_FAN = 21        /* the part has no such fan: a sample or a wish for a fan above the part's number */
 };
 
 /* The kinds of events. */
 enum cobblehard_kind {
     COBBLEHARD_END = 0, /* no event: the end of the log */
-    COBBLEHARD_POWER_ON = 1,
+    COBBLEHARD_POWER_ON = 1, /* of an EMC2305 */
     COBBLEHARD_TICKS = 2,
     COBBLEHARD_SAMPLE = 3,
     COBBLEHARD_WISH = 4,
-    COBBLEHARD_TRANSFER = 5
+    COBBLEHARD_TRANSFER = 5,
+    COBBLEHARD_POWER_ON_PART = 6 /* of an EMC2301, EMC2302 or EMC2303 */
 };
 
 /* The directions of a transfer. */
@@ -63,7 +75,7 @@ enum cobblehard_direction {
 /* What eventlog_fault answers where there is no fault. */
 #define COBBLEHARD_NO_FAULT UINT64_MAX
 
-/* How many figures a report of speeds has: five for each of five fans. */
+/* How many figures a report of speeds has: five for each of five fans, whatever the part. */
 #define COBBLEHARD_FIGURES 25
 
 /* A number in words, in a string that lives as long as the program. The words are for people and promise nothing: go by the number.
@@ -85,6 +97,8 @@ static inline const char *cobblehard_words(uint8_t number)
     case COBBLEHARD_WRONG_BYTES: return "length or clocked number of a transfer out of range";
     case COBBLEHARD_WRONG_POLES: return "poles out of range";
     case COBBLEHARD_TOO_MANY_SAMPLES: return "too many samples of a fan";
+    case COBBLEHARD_WRONG_FANS: return "number of fans out of range";
+    case COBBLEHARD_ABSENT_FAN: return "the part has no such fan";
     default: return "no such number";
     }
 }
@@ -94,12 +108,12 @@ static inline const char *cobblehard_words(uint8_t number)
  * The replies of the read transfers are laid in `replies`, one after the other from its front; the bytes past them stay.
  * A read transfer takes 6 bytes of a log and has a reply of at most 32, so that log_length / 6 * 32 bytes are always enough.
  *
- * The run walks on after 6 and 7, which it does not return. It stops at 1 to 5 and 8 to 11 and keeps the replies before the stop; of a reply
- * that has no room nothing is laid. Returns the last number, 0 at the end of the log, and sets
+ * The run walks on after 6, 7 and 21, which it does not return. It stops at 1 to 5, 8 to 11 and 15 and keeps the replies before the stop; of a
+ * reply that has no room nothing is laid. Returns the last number, 0 at the end of the log, and sets
  *   *place        the place in the log of the stopping record, or the end;
- *   *records      how many records were walked, those with 6 or 7 included and the stopping one not;
+ *   *records      how many records were walked, those with 6, 7 or 21 included and the stopping one not;
  *   *reply_bytes  how many bytes of `replies` were laid.
- * After a stop at 1 to 5 or 9 to 11, eventlog_fault(log, log_length, *place) tells the byte.
+ * After a stop at 1 to 5, 9 to 11 or 15, eventlog_fault(log, log_length, *place) tells the byte.
  */
 uint8_t emc2305_run(const uint8_t *log, size_t log_length, uint8_t *replies, size_t replies_length,
                     uint64_t *place, uint64_t *records, uint64_t *reply_bytes);
@@ -131,17 +145,18 @@ uint64_t emc2305_run_reply_bytes(const uint8_t *log, size_t log_length, uint8_t 
  *   +2  the highest
  *   +3  the total, to which each adds its whole RPM; at most 65,535 samples of at most 125,829,120 RPM fit in 64 bits
  *   +4  the number of its samples with count 0, which are in none of the other figures
- * The first four are 0 where the fan has no sample with a speed. The figures are of the whole log: no power-on sets them to 0, whatever its
- * address. A sample that is refused, before any power-on, counts nowhere.
+ * The first four are 0 where the fan has no sample with a speed. There are always five fans' figures, whatever the part, and they are of the
+ * whole log: no power-on sets them to 0, whatever its kind and address. A sample that is refused, before any power-on or for a fan that the
+ * part does not have, counts nowhere.
  *
  * `figures_length` is a number of entries. As many of the 25 figures are laid as `figures` has room for, from its front; entries past the
  * 25th stay as they were. So the room stops no report, and 8 is never returned: replies are not laid at all.
  *
- * Like a run it walks on after 6 and 7, and sets *place and *records. Returns
- *   0               at the end of the log
- *   13              for poles outside 1..4, before the log is read: all figures are 0, and so are *place and *records
- *   14              at the 65,536th sample of a fan, those with count 0 included
- *   1 to 5, 9 to 11 at a record that cannot be read, a 65,536th sample too; eventlog_fault tells the byte
+ * Like a run it walks on after 6, 7 and 21, and sets *place and *records. Returns
+ *   0                    at the end of the log
+ *   13                   for poles outside 1..4, before the log is read: all figures are 0, and so are *place and *records
+ *   14                   at the 65,536th sample of a fan, those with count 0 included and refused ones not
+ *   1 to 5, 9 to 11, 15  at a record that cannot be read, a 65,536th sample too; eventlog_fault tells the byte
  * After any but 13 the figures are those of the records before *place.
  */
 uint8_t emc2305_speeds(const uint8_t *log, size_t log_length, uint64_t poles, uint64_t *figures, size_t figures_length,
@@ -158,12 +173,13 @@ uint32_t emc2305_rpm_by_high_byte(uint8_t high_byte);
 
 /* An event as numbers, by its kind:
  *
- *   kind          unit            value            bytes
- *   1 power-on    address 0..127  -                -
- *   2 ticks       -               count            -
- *   3 sample      fan 1..5        count 0..8191    -
- *   4 wish        fan 1..5        drive 0..255     -
- *   5 transfer    address 0..127  0 write, 1 read  the bytes sent, at most 32; of a read one byte, how many the host clocks, 1..32
+ *   kind               unit            value                bytes
+ *   1 power-on         address 0..127  -                    -
+ *   2 ticks            -               count                -
+ *   3 sample           fan 1..5        count 0..8191        -
+ *   4 wish             fan 1..5        drive 0..255         -
+ *   5 transfer         address 0..127  0 write, 1 read      the bytes sent, at most 32; of a read one byte, how many the host clocks, 1..32
+ *   6 part's power-on  address 0..127  number of fans 1..3  -
  *
  * eventlog_read sets what stands as - to 0, and eventlog_write does not look at it.
  */
@@ -173,7 +189,7 @@ uint32_t emc2305_rpm_by_high_byte(uint8_t high_byte);
  * Returns 0 and sets all six numbers: the event's kind, unit and value; *bytes_place and *bytes_length, where its bytes lie in the log;
  * *next, the place after the record. With log + *bytes_place and *bytes_length for its bytes, eventlog_write makes the same record again.
  * At the exact end of the log it returns 0 with *kind 0, *next the place, and 0 in the others.
- * Returns 1 to 5 or 9 to 11 for a refusal, 1 also for a place past the end, and leaves all six as they were. Of faults the first in this
+ * Returns 1 to 5, 9 to 11 or 15 for a refusal, 1 also for a place past the end, and leaves all six as they were. Of faults the first in this
  * order decides: 2; 1 for fewer than four bytes; 3; 4; 1 for a payload cut short; then the field whose byte comes first.
  */
 uint8_t eventlog_read(const uint8_t *log, size_t log_length, uint64_t place, uint8_t *kind, uint8_t *unit, uint16_t *value,
@@ -189,6 +205,7 @@ uint8_t eventlog_read(const uint8_t *log, size_t log_length, uint64_t place, uin
  *   9   the count's low byte
  *   10  the address byte
  *   11  the length byte of a read where that is not 2, else the byte with the clocked number
+ *   15  the byte with the number of fans, which is the second of the payload
  *
  * Where there is no fault, at a record that eventlog_read takes and at the end of the log, it returns COBBLEHARD_NO_FAULT. For the place
  * UINT64_MAX, which is past the end of any log, the answer is that number too: whether there is a fault, eventlog_read tells.
@@ -198,9 +215,10 @@ uint64_t eventlog_fault(const uint8_t *log, size_t log_length, uint64_t place);
 /* Writes the record of an event at the front of `out`; a record has at most 37 bytes.
  *
  * Returns 0 and sets *written to the record's length. Otherwise `out` and *written stay as they were, and it returns the first of these:
- *   3   a kind other than 1 to 5
+ *   3   a kind other than 1 to 6
  *   11  a transfer with more than 32 bytes, or a read with another number of bytes than one
  *   10  an address above 127, or a direction above 1, which shares its byte
+ *   15  a number of fans other than 1, 2 or 3, above 255 too
  *   5   a fan outside 1..5
  *   9   a count above 8191, or a wish's drive above 255
  *   11  a clocked number outside 1..32

@@ -3,8 +3,9 @@
 
     python3 tests/library_test.py target/staticlib/libcobblehard.a target/staticlib/libcobblehard_speeds.a
 
-The cases are those of host/expected/src/library.rs, and the header's words. Each program is built twice, the second time with
-gcc's address and undefined behaviour sanitizers. The header is compiled by itself too, as C and, where there is g++, as C++.
+The cases are those of host/expected/src/library.rs, those of kind 6 below, and the header's words. Each program is built twice,
+the second time with gcc's address and undefined behaviour sanitizers. The header is compiled by itself too, as C and, where there
+is g++, as C++.
 """
 import pathlib
 import shutil
@@ -54,8 +55,45 @@ CALLS = ["run", "read", "write", "speeds", "rpm", "rpm_by_high_byte"]
 WORDS = ["taken", "the log ends inside a record", "a mark byte is wrong", "unknown kind", "length not allowed for the kind",
          "no such fan", "event before any power-on", "transfer to another address", "buffer too short", "count out of range",
          "address out of range", "length or clocked number of a transfer out of range", "no such number", "poles out of range",
-         "too many samples of a fan", "no such number"]
+         "too many samples of a fan", "number of fans out of range", *["no such number"] * 5, "the part has no such fan",
+         "no such number"]
 WORDS_CASES = [(f"words {number}", words) for number, words in enumerate(WORDS)]
+
+# ---- the cases of kind 6, with answers by hand ----
+
+NO_FAULT = 2**64 - 1
+KEPT = int.from_bytes(b"\xA5" * 8, "big")  # what check.c lays in a number before a call
+UNREAD = f"165 165 42405 {KEPT} {KEPT} {KEPT}"  # the six numbers of a record that is refused
+PARTS = bytes.fromhex("9C 46 03 03 05 00 08"  # a sample before power-on: 6
+                      "9C 46 06 02 2C 02"     # a part with two fans
+                      "9C 46 03 03 03 FF 1F 9C 46 04 02 04 FF"  # a sample of fan 3, a wish for fan 4: 21 twice
+                      "9C 46 03 03 02 00 08 9C 46 05 02 58 4E 9C 46 05 02 59 04")  # fan 2, and its reading with what follows
+FOUR_FANS = bytes.fromhex("9C 46 06 02 2C 04")
+PARTS_FIGURES = "0 0 0 0 0 1 3840 3840 3840 0" + 3 * " 0 0 0 0 0"
+
+
+def written(number, record, room=6):
+    return f"0 6 {record}" if number == 0 else f"{number} {KEPT} {'ee' * room or '.'}"
+
+
+def part_cases():
+    """Every number of fans with addresses at both ends, read and written; a run and a report that walk on after 21 and stop at 15."""
+    for address in (0, 44, 127, 128, 255):
+        for fans in range(256):
+            record = bytes([0x9C, 0x46, 6, 2, address, fans]).hex()
+            number, fault = (10, 4) if address > 127 else (15, 5) if fans not in (1, 2, 3) else (0, NO_FAULT)
+            numbers = UNREAD if number else f"6 {address} {fans} 0 0 6"
+            yield f"read 0 {record}", f"{number} {numbers} {fault}"
+            yield f"write 6 {address} {fans} 6 .", written(number, record)
+        for fans in (256, 257, 258, 259, 513, 65535):  # above a byte, some with a low byte in range
+            yield f"write 6 {address} {fans} 6 .", written(10 if address > 127 else 15, "")
+    yield "write 6 44 2 5 .", written(8, "", 5)
+    yield "write 6 44 4 5 .", written(15, "", 5)
+    yield "write 6 128 0 0 .", written(10, "", 0)
+    yield f"write 6 44 2 6 {'00' * 33}", written(0, "9c4606022c02")  # bytes are not looked at
+    for log, number in ((PARTS, 0), (PARTS + FOUR_FANS, 15)):
+        yield f"run 6 {log.hex()}", f"{number} 45 7 4 40000000eeee"
+        yield f"speeds 2 25 {log.hex()}", f"{number} 45 7 {PARTS_FIGURES}"
 
 
 def wrong(expected, answer):
@@ -105,6 +143,22 @@ faulty byte 56
 fan 5: samples 1, RPM lowest 960, highest 960, total 960, zero counts 0
 """
 EMPTY_OUTPUT = "0: end of the log\nnumber 0: taken\nplace 0\nrecords walked 0\nreply bytes 0:\n"
+PARTS_OUTPUT = """\
+0: tach sample of fan 5, count 2048
+7: power-on of a part, address 2C, fans 2
+13: tach sample of fan 3, count 8191
+20: loop wish for fan 4, drive 255
+26: tach sample of fan 2, count 2048
+33: write to address 2C: 4E
+39: read from address 2C, count 4
+45: refused with 15, number of fans out of range, at byte 50
+number 15: number of fans out of range
+place 45
+records walked 7
+reply bytes 4: 40 00 00 00
+faulty byte 50
+fan 2: samples 1, RPM lowest 3840, highest 3840, total 3840, zero counts 0
+"""
 SAMPLES = 65_536  # one more than a report takes
 CROWDED = bytes.fromhex("9C 46 01 01 2C" + "9C 46 03 03 02 00 00" * SAMPLES)
 CROWDED_OUTPUT = "".join(["0: power-on, address 2C\n",
@@ -115,10 +169,10 @@ CROWDED_OUTPUT = "".join(["0: power-on, address 2C\n",
 
 
 def check_example(name, program, folder):
-    """The built-in log, four files, and a file that is not there."""
+    """The built-in log, five files, and a file that is not there."""
     expected = (HOST / "example.expected").read_text()
     files = [(None, expected, 0), (EXAMPLE, expected, 0), (DAMAGED, DAMAGED_OUTPUT, 1), (b"", EMPTY_OUTPUT, 0),
-             (CROWDED, CROWDED_OUTPUT, 0)]
+             (PARTS + FOUR_FANS, PARTS_OUTPUT, 1), (CROWDED, CROWDED_OUTPUT, 0)]
     for log, output, status in files:
         file = folder / "log"
         file.write_bytes(log or b"")
@@ -135,7 +189,7 @@ def main():
     if len(sys.argv) != 3:
         sys.exit(__doc__)
     libraries = [pathlib.Path(name).resolve() for name in sys.argv[1:]]
-    cases = host.expected("library")
+    cases, parts = host.expected("library"), list(part_cases())
     counts = {word: sum(line.startswith(word + " ") for line, _ in cases) for word in CALLS}
     counted = ", ".join(f"{count} of {word}" for word, count in counts.items())
     if not all(counts.values()):
@@ -146,8 +200,8 @@ def main():
         with tempfile.TemporaryDirectory() as path:
             folder = pathlib.Path(path)
             check_example(name, build(libraries, folder, "example", flags), folder)
-            check_cases(name, build(libraries, folder, "check", flags), cases + WORDS_CASES)
-    print(f"library_test: {counted} as expected in {len(BUILDS)} builds; the words and the example too")
+            check_cases(name, build(libraries, folder, "check", flags), cases + parts + WORDS_CASES)
+    print(f"library_test: {counted} as expected in {len(BUILDS)} builds; {len(parts)} of kind 6, the words and the example too")
 
 
 if __name__ == "__main__":

@@ -10,7 +10,8 @@
  *
  * LOG, BYTES and BUFFER are in hex, ENTRIES are numbers of 64 bits, and "." is none. As LOG, BYTES or ROOM, "-" is none too,
  * by a pointer that is NULL.
- * Behind an answer stands what should not be: a plain run that differs from emc2305_run, bytes changed before a buffer.
+ * Behind an answer stands what should not be: a plain run that differs from emc2305_run, a record that was read and is
+ * not written again as it stands, bytes changed before a buffer.
  *
  * The library is not built with a sanitizer. So what is lent to it ends where a page begins that cannot be touched, and
  * what it may only read cannot be written.
@@ -194,17 +195,35 @@ static void check_run(const char *room, const char *hex)
     take_back(log);
 }
 
+/* Says where an event that was read is not written as `record`, in a buffer of its length. */
+static void compare_written(uint8_t kind, uint8_t unit, uint16_t value, const uint8_t *bytes, size_t bytes_length,
+                            const uint8_t *record, size_t length)
+{
+    struct lent out = lend(length);
+    uint64_t written = PRESET_64;
+    uint8_t number = eventlog_write(kind, unit, value, bytes, bytes_length, out.bytes, out.length, &written);
+
+    if (number != COBBLEHARD_TAKEN || written != length || memcmp(out.bytes, record, length) != 0) {
+        printf(" but written %u %" PRIu64, number, written);
+        print_bytes(out);
+    }
+    take_back(out);
+}
+
 static void check_read(const char *place, const char *hex)
 {
     struct lent log = lend_bytes(hex);
+    uint64_t from = parse(place);
     uint8_t kind = PRESET_8, unit = PRESET_8;
     uint16_t value = PRESET_16;
     uint64_t bytes_place = PRESET_64, bytes_length = PRESET_64, next = PRESET_64;
-    uint8_t number = eventlog_read(log.bytes, log.length, parse(place), &kind, &unit, &value, &bytes_place,
-                                   &bytes_length, &next);
+    uint8_t number = eventlog_read(log.bytes, log.length, from, &kind, &unit, &value, &bytes_place, &bytes_length,
+                                   &next);
 
     printf("%u %u %u %u %" PRIu64 " %" PRIu64 " %" PRIu64, number, kind, unit, value, bytes_place, bytes_length, next);
-    printf(" %" PRIu64, eventlog_fault(log.bytes, log.length, parse(place)));
+    printf(" %" PRIu64, eventlog_fault(log.bytes, log.length, from));
+    if (number == COBBLEHARD_TAKEN && kind != COBBLEHARD_END)
+        compare_written(kind, unit, value, log.bytes + bytes_place, bytes_length, log.bytes + from, next - from);
     take_back(log);
 }
 

@@ -35,6 +35,9 @@ static void print_event(uint8_t kind, uint8_t unit, uint16_t value, const uint8_
     case COBBLEHARD_POWER_ON:
         printf("power-on, address %02X\n", unit);
         break;
+    case COBBLEHARD_POWER_ON_PART:
+        printf("power-on of a part, address %02X, fans %u\n", unit, value);
+        break;
     case COBBLEHARD_TICKS:
         printf("%u ticks\n", value);
         break;

@@ -9,7 +9,7 @@ pub const LONGEST_RECORD: usize = 37;
 /// An event. One tick is 12.5 ms.
 #[derive(Clone, Copy, Debug, PartialEq, Eq)]
 pub enum Event<'a> {
-    /// Power-on, at a bus address 0..=127.
+    /// Power-on of an EMC2305, which has five fans, at a bus address 0..=127.
     PowerOn { address: u8 },
     /// So many ticks pass.
     Ticks { count: u16 },
@@ -21,6 +21,8 @@ pub enum Event<'a> {
     Write { address: u8, bytes: &'a [u8] },
     /// The host reads 1..=32 bytes from an address.
     Read { address: u8, count: u8 },
+    /// Power-on of a part with 1, 2 or 3 fans, an EMC2301, EMC2302 or EMC2303, at a bus address 0..=127.
+    PowerOnPart { address: u8, fans: u8 },
 }
 
 const END: u8 = 0;
@@ -29,12 +31,13 @@ const TICKS: u8 = 2;
 const SAMPLE: u8 = 3;
 const WISH: u8 = 4;
 const TRANSFER: u8 = 5;
+const POWER_ON_PART: u8 = 6;
 
 const READS: u16 = 1;
 
 impl Event<'_> {
     /// Lays the event's record at the front of `out` and gives its length. A refusal leaves `out` as it was: that of the field
-    /// which is out of range and comes first in the record (5, 9, 10 or 11), else 8.
+    /// which is out of range and comes first in the record (5, 9, 10, 11 or 15), else 8.
     pub fn write_to(&self, out: &mut [u8]) -> Result<usize, Refusal> {
         match *self {
             Event::PowerOn { address } => write(POWER_ON, address, 0, &[], out),
@@ -43,6 +46,7 @@ impl Event<'_> {
             Event::Wish { fan, drive } => write(WISH, fan, u16::from(drive), &[], out),
             Event::Write { address, bytes } => write(TRANSFER, address, 0, bytes, out),
             Event::Read { address, count } => write(TRANSFER, address, READS, &[count], out),
+            Event::PowerOnPart { address, fans } => write(POWER_ON_PART, address, u16::from(fans), &[], out),
         }
     }
 
@@ -113,15 +117,24 @@ fn event(kind: u8, unit: u8, value: u16, bytes: &[u8]) -> Option<Event<'_>> {
         },
         WISH => Event::Wish {
             fan: unit,
-            drive: u8::try_from(value).expect("a wish of the library is a byte"),
+            drive: byte(value),
         },
         TRANSFER if value == READS => Event::Read {
             address: unit,
             count: bytes[0],
         },
         TRANSFER => Event::Write { address: unit, bytes },
+        POWER_ON_PART => Event::PowerOnPart {
+            address: unit,
+            fans: byte(value),
+        },
         _ => panic!("libcobblehard gave the kind {kind}"),
     })
+}
+
+/// A wish or a number of fans, which is a byte in its record.
+fn byte(value: u16) -> u8 {
+    u8::try_from(value).expect("a value of the library that is a byte")
 }
 
 /// The refusal of what stands at a place of a log and cannot be read.

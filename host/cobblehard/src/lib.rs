@@ -36,6 +36,27 @@
 //! # Ok::<(), cobblehard::Refusal>(())
 //! ```
 //!
+//! [`Event::PowerOn`] powers on an EMC2305, which has five fans, and [`Event::PowerOnPart`] a part with fewer. Registers of a
+//! fan that the part does not have read 00h, and a run walks over samples and wishes for it:
+//!
+//! ```
+//! use cobblehard::{run, Event};
+//!
+//! let mut log = Vec::new();
+//! for event in [
+//!     Event::PowerOnPart { address: 0x2C, fans: 2 },
+//!     Event::Sample { fan: 3, count: 2048 },
+//!     Event::Write { address: 0x2C, bytes: &[0x4F] }, // the pointer, to the last register of fan 2
+//!     Event::Read { address: 0x2C, count: 3 },
+//! ] {
+//!     event.append_to(&mut log)?;
+//! }
+//! let (outcome, replies) = run(&log);
+//! assert_eq!((outcome.stop, outcome.records), (None, 4));
+//! assert_eq!(replies, [0xF8, 0x00, 0x00]);
+//! # Ok::<(), cobblehard::Refusal>(())
+//! ```
+//!
 //! It needs libcobblehard.a and libcobblehard_speeds.a, which `rt staticlib` makes of the crates of these names; see build.rs.
 
 #[cfg(not(all(target_arch = "x86_64", target_os = "linux", target_pointer_width = "64")))]

@@ -26,10 +26,14 @@ pub enum Reason {
     WrongPoles = 13,
     /// More than 65,535 samples of a fan in a report of speeds.
     TooManySamples = 14,
+    /// A part with another number of fans than 1, 2 or 3; one with five is [`Event::PowerOn`](crate::Event::PowerOn)'s.
+    WrongFans = 15,
+    /// A sample or a wish for a fan that the part does not have. A run and a report walk on after it.
+    AbsentFan = 21,
 }
 
 impl Reason {
-    const ALL: [Reason; 13] = [
+    const ALL: [Reason; 15] = [
         Reason::EndsInsideRecord,
         Reason::WrongMark,
         Reason::UnknownKind,
@@ -43,9 +47,11 @@ impl Reason {
         Reason::WrongBytes,
         Reason::WrongPoles,
         Reason::TooManySamples,
+        Reason::WrongFans,
+        Reason::AbsentFan,
     ];
 
-    /// The reason with this number; none for 0, which stands for taken, for 12, and for those past 14.
+    /// The reason with this number; none for 0, which stands for taken, for 12, for 16 to 20, and for those past 21.
     pub fn of_number(number: u8) -> Option<Reason> {
         Reason::ALL.into_iter().find(|reason| reason.number() == number)
     }
@@ -70,6 +76,8 @@ impl Reason {
             Reason::WrongBytes => "length or clocked number of a transfer out of range",
             Reason::WrongPoles => "poles out of range",
             Reason::TooManySamples => "too many samples of a fan",
+            Reason::WrongFans => "number of fans out of range",
+            Reason::AbsentFan => "the part has no such fan",
         }
     }
 

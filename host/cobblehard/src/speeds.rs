@@ -8,7 +8,8 @@ const FANS: usize = 5;
 /// Of one fan.
 const FIGURES: usize = 5;
 
-/// The figures of one fan over a whole log: no power-on sets them to 0. A sample that is refused counts nowhere.
+/// The figures of one fan over a whole log: no power-on sets them to 0. A sample that is refused, before any power-on or for a
+/// fan that the part does not have, counts nowhere.
 #[derive(Clone, Copy, Debug, Default, PartialEq, Eq)]
 pub struct Figures {
     /// The number of samples with a count above 0.
@@ -36,9 +37,9 @@ pub struct Speeds {
     pub stop: Option<Refusal>,
     /// The place in the log of the stopping record, or the end.
     pub place: usize,
-    /// How many records were walked, those refused with 6 or 7 included and the stopping one not.
+    /// How many records were walked, those refused with 6, 7 or 21 included and the stopping one not.
     pub records: usize,
-    /// The figures of fans 1 to 5, of the records before the place.
+    /// The figures of fans 1 to 5, whatever the part, of the records before the place.
     pub fans: [Figures; FANS],
 }
 

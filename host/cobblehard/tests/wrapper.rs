@@ -26,7 +26,7 @@ const EVENTS: [Event<'static>; 3] = [
 const HEADER: &str = include_str!("../../../include/cobblehard.h");
 
 /// Every number with its name in the header, and its words.
-const NUMBERS: [(u8, &str, &str); 14] = [
+const NUMBERS: [(u8, &str, &str); 16] = [
     (0, "COBBLEHARD_TAKEN", "taken"),
     (1, "COBBLEHARD_CUT_SHORT", "the log ends inside a record"),
     (2, "COBBLEHARD_WRONG_MARK", "a mark byte is wrong"),
@@ -45,10 +45,12 @@ const NUMBERS: [(u8, &str, &str); 14] = [
     ),
     (13, "COBBLEHARD_WRONG_POLES", "poles out of range"),
     (14, "COBBLEHARD_TOO_MANY_SAMPLES", "too many samples of a fan"),
+    (15, "COBBLEHARD_WRONG_FANS", "number of fans out of range"),
+    (21, "COBBLEHARD_ABSENT_FAN", "the part has no such fan"),
 ];
 
 /// Those behind the first, which is no refusal.
-const REASONS: [Reason; 13] = [
+const REASONS: [Reason; 15] = [
     Reason::EndsInsideRecord,
     Reason::WrongMark,
     Reason::UnknownKind,
@@ -62,11 +64,13 @@ const REASONS: [Reason; 13] = [
     Reason::WrongBytes,
     Reason::WrongPoles,
     Reason::TooManySamples,
+    Reason::WrongFans,
+    Reason::AbsentFan,
 ];
 
 /// What cannot be read: its number, and the place of the first faulty byte. Where there are two faults, reading's order
 /// decides and, of fields, the earlier byte: the other fault is named behind "before".
-const FAULTS: [(&[u8], u8, usize); 41] = [
+const FAULTS: [(&[u8], u8, usize); 53] = [
     // 1, where the first missing byte would stand
     (&[0x9C], 1, 1),
     (&[0x9C, 0x46], 1, 2),
@@ -76,15 +80,17 @@ const FAULTS: [(&[u8], u8, usize); 41] = [
     (&[0x9C, 0x46, 0x05, 0x14, 0x58], 1, 5),
     (&[0x9C, 0x46, 0x03, 0x03, 0x00, 0x00], 1, 6), // before the fan
     (&[0x9C, 0x46, 0x05, 0x03, 0x59, 0x00], 1, 6), // before a read's length byte
+    (&[0x9C, 0x46, 0x06, 0x02], 1, 4),
+    (&[0x9C, 0x46, 0x06, 0x02, 0x80], 1, 5), // before the address
     // 2, the first wrong mark byte
     (&[0x9D], 2, 0),
     (&[0x9C, 0x47], 2, 1),
     (&[0x9D, 0x47, 0x01, 0x01, 0x2C], 2, 0),
     (&[0x46, 0x9C, 0x01, 0x01, 0x2C], 2, 0),
-    (&[0x9C, 0x00, 0x06, 0x01, 0x80], 2, 1), // before the kind
+    (&[0x9C, 0x00, 0x07, 0x01, 0x80], 2, 1), // before the kind
     // 3, the kind byte
     (&[0x9C, 0x46, 0x00, 0x01, 0x2C], 3, 2),
-    (&[0x9C, 0x46, 0x06, 0x01], 3, 2), // before the payload that is short
+    (&[0x9C, 0x46, 0x07, 0x01], 3, 2), // before the payload that is short
     (&[0x9C, 0x46, 0xFF, 0x00], 3, 2), // before the length byte
     // 4, the length byte
     (&[0x9C, 0x46, 0x02, 0x09], 4, 3),             // before the payload that is short
@@ -93,6 +99,10 @@ const FAULTS: [(&[u8], u8, usize); 41] = [
     (&[0x9C, 0x46, 0x04, 0x00], 4, 3),
     (&[0x9C, 0x46, 0x05, 0x00], 4, 3),
     (&[0x9C, 0x46, 0x05, 0x22, 0x59], 4, 3),
+    (&[0x9C, 0x46, 0x06, 0x00], 4, 3),
+    (&[0x9C, 0x46, 0x06, 0x01, 0x2C], 4, 3),
+    (&[0x9C, 0x46, 0x06, 0x03, 0x80, 0x00, 0x00], 4, 3), // before the address
+    (&[0x9C, 0x46, 0x06, 0xFF], 4, 3),                   // before the payload that is short
     // 5, the fan byte
     (&[0x9C, 0x46, 0x03, 0x03, 0x00, 0xFF, 0x1F], 5, 4),
     (&[0x9C, 0x46, 0x03, 0x03, 0x06, 0x00, 0x00], 5, 4),
@@ -105,6 +115,8 @@ const FAULTS: [(&[u8], u8, usize); 41] = [
     // 10, the address byte
     (&[0x9C, 0x46, 0x01, 0x01, 0x80], 10, 4),
     (&[0x9C, 0x46, 0x01, 0x01, 0xFF], 10, 4),
+    (&[0x9C, 0x46, 0x06, 0x02, 0x80, 0x02], 10, 4),
+    (&[0x9C, 0x46, 0x06, 0x02, 0xFF, 0x00], 10, 4), // before the number of fans
     // 11, the length byte of a read where that is not 2
     (&[0x9C, 0x46, 0x05, 0x01, 0x59], 11, 3),
     (&[0x9C, 0x46, 0x05, 0x03, 0x59, 0x01, 0x01], 11, 3),
@@ -117,6 +129,11 @@ const FAULTS: [(&[u8], u8, usize); 41] = [
     (&[0x9C, 0x46, 0x05, 0x02, 0x01, 0x00], 11, 5),
     (&[0x9C, 0x46, 0x05, 0x02, 0xFF, 0x80], 11, 5),
     (&[0x9C, 0x46, 0x05, 0x02, 0xFF, 0xFF], 11, 5),
+    // 15, the byte with the number of fans
+    (&[0x9C, 0x46, 0x06, 0x02, 0x2C, 0x00], 15, 5),
+    (&[0x9C, 0x46, 0x06, 0x02, 0x00, 0x04], 15, 5),
+    (&[0x9C, 0x46, 0x06, 0x02, 0x7F, 0x05], 15, 5),
+    (&[0x9C, 0x46, 0x06, 0x02, 0x2C, 0xFF], 15, 5),
 ];
 
 /// A transfer's length byte at its most, with the direction of a read.
@@ -139,7 +156,7 @@ fn stopped(outcome: Run) -> (u8, Option<usize>, [usize; 3]) {
 }
 
 /// One event of each kind, at the ends of its fields, with its record.
-fn each_kind() -> [(Event<'static>, Vec<u8>); 7] {
+fn each_kind() -> [(Event<'static>, Vec<u8>); 9] {
     const BYTES: [u8; 32] = [0xA5; 32];
     [
         (Event::PowerOn { address: 127 }, vec![0x9C, 0x46, 1, 1, 127]),
@@ -169,6 +186,11 @@ fn each_kind() -> [(Event<'static>, Vec<u8>); 7] {
                 count: 32,
             },
             vec![0x9C, 0x46, 5, 2, 0x59, 32],
+        ),
+        (Event::PowerOnPart { address: 0, fans: 3 }, vec![0x9C, 0x46, 6, 2, 0, 3]),
+        (
+            Event::PowerOnPart { address: 127, fans: 1 },
+            vec![0x9C, 0x46, 6, 2, 127, 1],
         ),
     ]
 }
@@ -244,7 +266,7 @@ fn the_records_of_a_log() {
 #[test]
 fn a_refusal_is_the_last_record() {
     let mut log = LOG;
-    log[7] = 6;
+    log[7] = 7;
     let mut found = records(&log);
     assert_eq!(found.next(), Some((0, Ok(EVENTS[0]))));
     let (place, answer) = found.next().expect("the refused record");
@@ -258,7 +280,7 @@ fn what_cannot_be_read() {
         assert_eq!(refused(read(bytes, 0)), (number, Some(fault)), "{bytes:02X?}");
     }
     let numbers: BTreeSet<u8> = FAULTS.map(|(_, number, _)| number).into();
-    assert_eq!(numbers, BTreeSet::from([1, 2, 3, 4, 5, 9, 10, 11]));
+    assert_eq!(numbers, BTreeSet::from([1, 2, 3, 4, 5, 9, 10, 11, 15]));
 }
 
 #[test]
@@ -322,7 +344,7 @@ fn the_longest_record() {
 }
 
 /// Events with fields out of range, and the number of that whose byte comes first in the record.
-const OUT_OF_RANGE: [(Event<'static>, u8); 16] = [
+const OUT_OF_RANGE: [(Event<'static>, u8); 21] = [
     (Event::PowerOn { address: 128 }, 10),
     (Event::Sample { fan: 0, count: 0 }, 5),
     (Event::Sample { fan: 6, count: 0 }, 5),
@@ -375,6 +397,11 @@ const OUT_OF_RANGE: [(Event<'static>, u8); 16] = [
         },
         10,
     ),
+    (Event::PowerOnPart { address: 128, fans: 2 }, 10),
+    (Event::PowerOnPart { address: 128, fans: 0 }, 10),
+    (Event::PowerOnPart { address: 127, fans: 0 }, 15),
+    (Event::PowerOnPart { address: 0, fans: 4 }, 15),
+    (Event::PowerOnPart { address: 0, fans: 5 }, 15),
 ];
 
 #[test]
@@ -415,7 +442,7 @@ fn reasons_with_number_and_words() {
         assert_eq!(Reason::of_number(number), Some(reason));
         assert_eq!((reason.number(), reason.words()), (number, words));
     }
-    let mut others = (15..=255).chain([0, 12]);
+    let mut others = (22..=255).chain(16..=20).chain([0, 12]);
     assert!(others.all(|number| Reason::of_number(number).is_none()));
 }
 
@@ -456,6 +483,25 @@ fn the_header_has_the_same_numbers() {
     assert_eq!(constants.collect::<Vec<_>>(), expected);
 }
 
+/// Those that the events' records have, and 0 for the end.
+#[test]
+fn the_header_has_the_same_kinds() {
+    let constants =
+        header_lines("enum cobblehard_kind {").map(|line| line.split([',', '/']).next().expect("a constant"));
+    let expected = [
+        "COBBLEHARD_END = 0",
+        "COBBLEHARD_POWER_ON = 1",
+        "COBBLEHARD_TICKS = 2",
+        "COBBLEHARD_SAMPLE = 3",
+        "COBBLEHARD_WISH = 4",
+        "COBBLEHARD_TRANSFER = 5",
+        "COBBLEHARD_POWER_ON_PART = 6",
+    ];
+    assert_eq!(constants.map(str::trim).collect::<Vec<_>>(), expected);
+    let kinds: BTreeSet<u8> = each_kind().map(|(_, record)| record[2]).into();
+    assert_eq!(kinds, (1..=6).collect());
+}
+
 #[test]
 fn the_header_has_the_same_words() {
     let cases = header_lines("static inline const char *cobblehard_words(").filter(|line| line.contains("return"));
@@ -466,10 +512,7 @@ fn the_header_has_the_same_words() {
     assert_eq!(cases.collect::<Vec<_>>(), expected);
 }
 
-// ---- speeds ----
-
-/// Out of range, and what a narrower number would take for one in range.
-const WRONG_POLES: [u64; 9] = [0, 5, 255, 256, 257, 65_538, 1 << 32, (1 << 32) + 3, u64::MAX];
+// ---- parts ----
 
 fn log_of(events: &[Event]) -> Vec<u8> {
     let mut log = Vec::new();
@@ -490,6 +533,181 @@ fn sample(fan: u8, count: u16) -> Event<'static> {
 fn send(bytes: &[u8]) -> Event<'_> {
     Event::Write { address: 0x2C, bytes }
 }
+
+fn part(fans: u8) -> Event<'static> {
+    Event::PowerOnPart { address: 0x2C, fans }
+}
+
+/// What a chip answers to a read of so many bytes from a register on, after these events.
+fn shown(events: &[Event], register: u8, count: u8) -> Vec<u8> {
+    let read = Event::Read { address: 0x2C, count };
+    let log = log_of(&[events, &[send(&[register]), read]].concat());
+    let (outcome, replies) = run(&log);
+    assert_eq!((outcome.stop, outcome.records), (None, events.len() + 2));
+    replies
+}
+
+/// 1, 2 and 3 are taken. An address that is out of range is refused before the number is.
+#[test]
+fn every_number_of_fans() {
+    for (address, fans) in [0, 0x2C, 127, 128, 255]
+        .into_iter()
+        .flat_map(|a| (0..=255).map(move |f| (a, f)))
+    {
+        let event = Event::PowerOnPart { address, fans };
+        let record = [0x9C, 0x46, 6, 2, address, fans];
+        let refusal = match (address, fans) {
+            (128.., _) => Some((10, 4)),
+            (_, 1..=3) => None,
+            _ => Some((15, 5)),
+        };
+        let mut out = [0xAA; 6];
+        let written = event.write_to(&mut out);
+        if let Some((number, fault)) = refusal {
+            assert_eq!((refused(written), out), ((number, None), [0xAA; 6]), "{event:?}");
+            assert_eq!(refused(read(&record, 0)), (number, Some(fault)), "{event:?}");
+            assert_eq!(stopped(run(&record).0), (number, Some(fault), [0, 0, 0]), "{event:?}");
+        } else {
+            assert_eq!((written, out), (Ok(6), record), "{event:?}");
+            assert_eq!(read(&record, 0), Ok(Some((event, 6))), "{event:?}");
+            let outcome = run(&record).0;
+            assert_eq!(
+                (outcome.number(), outcome.place, outcome.records),
+                (0, 6, 1),
+                "{event:?}"
+            );
+        }
+    }
+}
+
+/// 6, 21 and 7 are walked over, and 15 stops.
+#[test]
+fn a_run_over_a_part() {
+    let mut log = log_of(&[
+        sample(5, 2048), // before any power-on
+        part(2),
+        sample(3, 8191),
+        Event::Wish { fan: 5, drive: 255 },
+        sample(2, 2048), // 4000h in 4Eh and 4Fh
+        send(&[0x4E]),
+        Event::Read {
+            address: 0x2C,
+            count: 4,
+        },
+        Event::Read {
+            address: 0x2D,
+            count: 4,
+        },
+    ]);
+    let end = log.len();
+    let (outcome, replies) = run(&log);
+    assert_eq!((outcome.stop, outcome.place, outcome.records), (None, end, 8));
+    assert_eq!(replies, [0x40, 0x00, 0x00, 0x00]);
+    log.extend([0x9C, 0x46, 6, 2, 0x2C, 4]);
+    let (outcome, replies) = run(&log);
+    assert_eq!(stopped(outcome), (15, Some(end + 5), [end, 8, 4]));
+    assert_eq!(replies, [0x40, 0x00, 0x00, 0x00]);
+    let refusal = outcome.stop.expect("a refusal");
+    assert_eq!(refusal.reason(), Reason::WrongFans);
+    let words = format!("refused with 15, number of fans out of range, at byte {}", end + 5);
+    assert_eq!(refusal.to_string(), words);
+}
+
+/// After a power-on, and after a byte is written to 31h, 41h and so on to 71h.
+#[test]
+fn registers_of_absent_fans() {
+    let writes = [0x31, 0x41, 0x51, 0x61, 0x71].map(|register| [register, 0xA5]);
+    for (event, fans) in [(part(1), 1), (part(2), 2), (part(3), 3), (power_on(0x2C), 5)] {
+        let events = [&[event][..], &writes.each_ref().map(|bytes| send(bytes))].concat();
+        for fan in 1..=5 {
+            let first = 0x20 + 0x10 * fan;
+            let (before, after) = (shown(&events[..1], first, 16), shown(&events, first, 16));
+            if fan <= fans {
+                assert_eq!(before, shown(&[power_on(0x2C)], 0x30, 16), "{event:?}, fan {fan}");
+                assert_eq!(
+                    after,
+                    [&before[..1], &[0xA5], &before[2..]].concat(),
+                    "{event:?}, fan {fan}"
+                );
+            } else {
+                assert_eq!((before, after), (vec![0; 16], vec![0; 16]), "{event:?}, fan {fan}");
+            }
+        }
+        assert_eq!(shown(&events, 0xFC, 4), [0x00, 0x34, 0x5D, 0x80], "{event:?}");
+        assert_eq!(shown(&[event, send(&[0x29, 0xFF])], 0x29, 1), [0xFF], "{event:?}");
+    }
+}
+
+/// Each fan that is there spins up for 40 ticks and fails, since no sample came in: 24h, 25h and 26h show it.
+#[test]
+fn status_bits_of_absent_fans() {
+    let writes = [0x30, 0x40, 0x50, 0x60, 0x70].map(|register| [register, 0x80]);
+    for (event, bits) in [
+        (part(1), 0x01),
+        (part(2), 0x03),
+        (part(3), 0x07),
+        (power_on(0x2C), 0x1F),
+    ] {
+        let mut events = vec![event];
+        events.extend(writes.each_ref().map(|bytes| send(bytes)));
+        events.push(Event::Ticks { count: 40 });
+        assert_eq!(shown(&events, 0x24, 3), [0x02, 0x00, bits], "{event:?}");
+    }
+}
+
+/// A write to an absent fan does not end the power-up watch, and its firing leaves that fan: 24h, 30h and 40h show it.
+#[test]
+fn the_watch_passes_absent_fans_by() {
+    let ticks = Event::Ticks { count: 320 };
+    for (event, replies) in [(part(1), [0x80, 0xFF, 0x00]), (part(2), [0x02, 0x00, 0x80])] {
+        let events = [event, send(&[0x40, 0x80]), ticks];
+        let each = [0x24, 0x30, 0x40].map(|register| shown(&events, register, 1)[0]);
+        assert_eq!(each, replies, "{event:?}");
+    }
+}
+
+/// 41h, which shows 01h where fan 2 is there.
+#[test]
+fn the_part_is_that_of_the_last_power_on() {
+    for (last, byte) in [
+        (part(1), 0x00),
+        (part(2), 0x01),
+        (part(3), 0x01),
+        (power_on(0x2C), 0x01),
+    ] {
+        for first in [part(1), part(2), part(3), power_on(0x2C), power_on(0x2D)] {
+            assert_eq!(shown(&[first, last], 0x41, 1), [byte], "{first:?}, {last:?}");
+        }
+    }
+}
+
+/// All 256 registers, after a chip that was used and locked.
+#[test]
+fn each_power_on_sets_everything_back() {
+    let used = [
+        send(&[0x20, 0xA0]),
+        send(&[0x29, 0xFF, 0x01, 0x02, 0x03, 0x04]),
+        send(&[0x30, 0x80]),
+        send(&[0x37, 0x20]),
+        Event::Ticks { count: 40 },
+        sample(1, 2048),
+        send(&[0xEF, 0x01]),
+    ];
+    for last in [part(1), part(2), part(3), power_on(0x2C)] {
+        for first in [part(1), part(3), power_on(0x2C)] {
+            let events = [&[first][..], &used, &[last]].concat();
+            for register in (0..=255).step_by(32) {
+                let (after, fresh) = (shown(&events, register, 32), shown(&[last], register, 32));
+                assert_eq!(after, fresh, "{first:?}, {last:?}, {register:02X}");
+            }
+        }
+    }
+}
+
+// ---- speeds ----
+
+/// Out of range, and what a narrower number would take for one in range.
+const WRONG_POLES: [u64; 9] = [0, 5, 255, 256, 257, 65_538, 1 << 32, (1 << 32) + 3, u64::MAX];
 
 fn figures([samples, lowest, highest, total, zeros]: [u64; 5]) -> Figures {
     Figures {
@@ -587,6 +805,40 @@ fn a_report_over_two_power_ons() {
     assert_eq!(report.fans[1..], [Figures::default(); 4]);
 }
 
+/// Samples for absent fans count nowhere, and a power-on of another part sets no figure to 0.
+#[test]
+fn a_report_over_parts() {
+    let mut log = log_of(&[
+        part(1),
+        sample(1, 2048), // 7864320 / 2048 = 3840
+        sample(2, 2048),
+        part(3),
+        sample(3, 1024), // 7680
+        sample(4, 0),
+        power_on(0x2C),
+        sample(2, 8191), // 960
+        sample(4, 0),
+        part(2),
+        sample(3, 1),
+        sample(5, 0),
+    ]);
+    let end = log.len();
+    let expected = [
+        [1, 3840, 3840, 3840, 0],
+        [1, 960, 960, 960, 0],
+        [1, 7680, 7680, 7680, 0],
+        [0, 0, 0, 0, 1],
+        [0, 0, 0, 0, 0],
+    ];
+    let report = speeds(&log, 2);
+    assert_eq!(ended(&report), (0, None, end, 12));
+    assert_eq!(report.fans, expected.map(figures));
+    log.extend([0x9C, 0x46, 6, 2, 0x2C, 5]);
+    let report = speeds(&log, 2);
+    assert_eq!(ended(&report), (15, Some(end + 5), end, 12));
+    assert_eq!(report.fans, expected.map(figures));
+}
+
 /// No reply is laid, so that none lacks room.
 #[test]
 fn a_report_over_reads() {
@@ -665,4 +917,18 @@ fn the_sample_past_65535() {
 
     let report = speeds(&[&log[..], &[0x9C, 0x46, 0x03, 0x03, 0x01, 0x00, 0x20]].concat(), 1);
     assert_eq!(ended(&report), (9, Some(full.0 + 5), full.0, full.1));
+}
+
+/// 65,535 samples of fan 2 with count 0. The next is refused by a part without that fan, and ends the report with another.
+#[test]
+fn the_sample_past_65535_of_an_absent_fan() {
+    let mut log = log_of(&[power_on(0x2C)]);
+    log.extend(log_of(&[sample(2, 0)]).repeat(65_535));
+    let (full, records) = (log.len(), 65_536);
+    log.extend(log_of(&[part(1), sample(2, 0), part(2), sample(2, 0)]));
+    let report = speeds(&log, 1);
+    assert_eq!(ended(&report), (14, None, full + 6 + 7 + 6, records + 3));
+    assert_eq!(report.fans[1], figures([0, 0, 0, 0, 65_535]));
+    let report = speeds(&log[..full + 6 + 7], 1);
+    assert_eq!(ended(&report), (0, None, full + 6 + 7, records + 2));
 }
