@@ -6,6 +6,7 @@ use model::chip::{
 use model::log::{read, Event, Fault};
 use std::collections::BTreeMap;
 
+mod parts;
 mod speeds;
 
 /// A reply has at most so many bytes.
@@ -25,9 +26,11 @@ pub struct Coverage {
     /// Spin-ups by bits 0..5 of Spin Up, started by a write (a) and by a stall (b).
     by_write: [u64; 64],
     by_stall: [u64; 64],
+    /// A write came that would have ended the power-up watch, had the part had the fan.
+    would_have_ended: bool,
 }
 
-/// What is counted by name, but for speeds. Numbers, registers, periods and Spin Up settings have names of their own.
+/// What is counted by name, but for parts and speeds. Numbers, registers, periods and Spin Up settings have names of their own.
 const NAMES: [&str; 101] = [
     // The log
     "sample of fan 0",
@@ -140,10 +143,12 @@ const NAMES: [&str; 101] = [
 impl Coverage {
     /// Nothing happened yet.
     pub fn none() -> Coverage {
-        let numbers = (0..=11).map(|number| format!("number {number}"));
+        let numbers = (0..=11).chain([15, 21]).map(|number| format!("number {number}"));
         let periods = PERIODS.iter().map(|ticks| format!("update after {ticks} ticks"));
-        let names = NAMES.iter().chain(&speeds::NAMES).map(|name| name.to_string());
-        let others = numbers.chain(periods).chain(speeds::setting_names());
+        let names = NAMES.iter().chain(&parts::NAMES).chain(&speeds::NAMES);
+        let names = names.map(|name| name.to_string());
+        let others = numbers.chain(periods).chain(parts::part_names());
+        let others = others.chain(speeds::setting_names());
         Coverage {
             happened: names.chain(others).map(|name| (name, 0)).collect(),
             read: [0; 256],
@@ -151,6 +156,7 @@ impl Coverage {
             changed: [0; 256],
             by_write: [0; 64],
             by_stall: [0; 64],
+            would_have_ended: false,
         }
     }
 
@@ -193,7 +199,7 @@ impl Coverage {
                 }
                 Ok(None) => return self.number(0),
                 Err(Fault { number, .. }) => {
-                    if matches!(number, 5 | 9..=11) {
+                    if matches!(number, 5 | 9..=11 | 15) {
                         self.out_of_range(&chip, &log[place..]);
                     }
                     return self.number(number);
@@ -213,10 +219,13 @@ impl Coverage {
                 "continuous watch not fed by a transfer elsewhere",
                 number == 7 && fed_at(&before) > 0,
             );
+            if number == 21 {
+                self.absent_fan(chip, event);
+            }
             return self.number(number);
         }
         match *event {
-            Event::PowerOn { .. } => self.power_on(&before, chip),
+            Event::PowerOn { .. } | Event::PowerOnPart { .. } => self.power_on(&before, chip),
             Event::Sample { fan, count } => self.sample(&before, usize::from(fan - 1), count),
             Event::Wish { fan, .. } => self.wish(&before.fans[usize::from(fan - 1)]),
             Event::Transfer {
@@ -241,6 +250,7 @@ impl Coverage {
             "power-on at another address while powered",
             powered && before.address != after.address,
         );
+        self.part_power_on(before, after);
     }
 
     fn wish(&mut self, fan: &Fan) {
@@ -268,6 +278,7 @@ impl Coverage {
             fan.spin_up.is_some() && count >= least,
         );
         self.by_stall[spin_up_setting(fan)] += u64::from(stall && closed(fan));
+        self.part_sample(chip, stall, fan);
     }
 }
 
@@ -282,12 +293,16 @@ impl Coverage {
                 self.count("power-on address above 127", address > 127);
                 self.count("power-on address 128", address == 128);
             }
-            (3, &[fan, low, high]) => self.bad_sample(fan, low, high),
+            (3, &[fan, low, high]) => {
+                self.bad_sample(fan, low, high);
+                self.bad_absent_sample(chip, fan);
+            }
             (4, &[fan, _]) => {
                 self.count("wish of fan 0", fan == 0);
                 self.count("wish of a fan above 5", fan > 5);
                 self.count("fan 6", fan == 6);
             }
+            (6, &[address, fans]) => self.bad_part(chip, address, fans),
             (_, payload) => self.bad_read(chip, payload),
         }
     }
@@ -339,22 +354,25 @@ impl Coverage {
     }
 
     fn tick(&mut self, before: &Chip, after: &Chip) {
+        let fans = &before.fans[..before.present];
         match before.watch {
-            Watch::PowerUp { count: 319 } => self.count("power-up watch fired", true),
+            Watch::PowerUp { count: 319 } => {
+                self.count("power-up watch fired", true);
+                self.part_fires(before);
+            }
             Watch::Continuous { count: 319 } => {
+                self.part_fires(before);
                 self.count("continuous watch fired", true);
                 self.count(
                     "continuous watch fired after a firing",
-                    before.fans.iter().all(|fan| fan.registers[SETTING] == 0xFF),
+                    fans.iter().all(|fan| fan.registers[SETTING] == 0xFF),
                 );
-                self.count(
-                    "watch fired in spin-up",
-                    before.fans.iter().any(|fan| fan.spin_up.is_some()),
-                );
+                self.count("watch fired in spin-up", fans.iter().any(|fan| fan.spin_up.is_some()));
             }
             _ => {
-                for (before, after) in before.fans.iter().zip(&after.fans) {
-                    self.fan_tick(before, after);
+                for (fan, after) in fans.iter().zip(&after.fans) {
+                    self.fan_tick(fan, after);
+                    self.part_fan_tick(before, fan, after);
                 }
             }
         }
@@ -417,8 +435,11 @@ impl Coverage {
 
 // ---- transfers ----
 
-/// Where the registers of fans 2 to 5 begin.
-const FAN_BORDERS: [u8; 4] = [0x40, 0x50, 0x60, 0x70];
+/// Whether a block goes from the registers of a fan into those of the next that there is.
+fn goes_into_the_next(chip: &Chip, first: u8, count: usize) -> bool {
+    let last = parts::edge(chip);
+    (0x40..last).step_by(16).any(|border| goes_over(first, count, border))
+}
 
 /// Whether a block of so many bytes has registers on both sides of a border.
 fn goes_over(first: u8, count: usize, border: u8) -> bool {
@@ -430,9 +451,11 @@ impl Coverage {
         self.count("continuous watch fed by a read", fed_at(chip) > 0);
         self.count("block read over FFh", usize::from(chip.pointer) + count > 256);
         self.count("block read into the first fan", goes_over(chip.pointer, count, 0x30));
-        let next = FAN_BORDERS.iter().any(|&border| goes_over(chip.pointer, count, border));
+        let next = goes_into_the_next(chip, chip.pointer, count);
         self.count("block read from a fan into the next", next);
-        self.count("block read past the last fan", goes_over(chip.pointer, count, 0x80));
+        let past = goes_over(chip.pointer, count, parts::edge(chip));
+        self.count("block read past the last fan", past);
+        self.part_reads(chip, count);
         for register in aimed_at(chip.pointer, count) {
             self.read[usize::from(register)] += 1;
             match register {
@@ -499,9 +522,11 @@ impl Coverage {
         };
         self.count("block write over FFh", usize::from(pointer) + data.len() > 256);
         self.count("block write into the first fan", goes_over(pointer, data.len(), 0x30));
-        let next = FAN_BORDERS.iter().any(|&border| goes_over(pointer, data.len(), border));
+        let next = goes_into_the_next(chip, pointer, data.len());
         self.count("block write from a fan into the next", next);
-        self.count("block write past the last fan", goes_over(pointer, data.len(), 0x80));
+        let past = goes_over(pointer, data.len(), parts::edge(chip));
+        self.count("block write past the last fan", past);
+        self.part_writes(chip, pointer, data.len());
         let mut chip = chip.clone();
         for (register, &byte) in aimed_at(pointer, data.len()).zip(data) {
             let before = chip.clone();
@@ -512,10 +537,11 @@ impl Coverage {
 
     fn data_byte(&mut self, before: &Chip, register: u8, byte: u8, after: &Chip) {
         self.written[usize::from(register)] += 1;
+        self.part_byte(before, register, byte);
         let locked = before.lock & 1 == 1;
         match register {
             0x20 => self.configuration(before, byte, locked),
-            0x30..=0x7F => {
+            0x30..=0x7F if register < parts::edge(before) => {
                 let (index, offset) = (usize::from(register / 16 - 3), usize::from(register % 16));
                 let (fan_before, fan_after) = (&before.fans[index], &after.fans[index]);
                 self.lock(offset, locked, fan_before != fan_after);
@@ -523,6 +549,7 @@ impl Coverage {
                 self.changed[usize::from(register)] +=
                     u64::from(fan_before.registers[offset] != fan_after.registers[offset]);
                 self.fan_write(fan_before, offset, byte, fan_after);
+                self.part_fan_write(before, fan_before, fan_after);
             }
             0xEF => {
                 self.count("EFh written while locked", locked);

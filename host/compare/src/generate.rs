@@ -71,7 +71,7 @@ fn near_records(chance: &mut Chance) -> Vec<u8> {
     for _ in 0..chance.between(1, 6) {
         let length = chance.below(40);
         log.extend(MARK);
-        log.extend([chance.below(8) as u8, chance.below(40) as u8]);
+        log.extend([chance.below(9) as u8, chance.below(40) as u8]);
         log.extend(chance.bytes(length));
     }
     if chance.one_in(4) {
@@ -116,18 +116,26 @@ fn damaged(chance: &mut Chance) -> Vec<u8> {
 fn out_of_range(log: &mut Vec<u8>, at: usize, chance: &mut Chance) {
     let fan = chance.pick(&[0, 1, 5, 6, 0xFF]);
     let byte = chance.byte();
-    let (kind, payload) = match chance.below(6) {
+    let (kind, payload) = match chance.below(8) {
         0 => (1, vec![chance.pick(&[0x7F, 0x80, 0xFF])]),
         1 | 2 => {
             let [low, high] = [chance.pick(&[0x00, 0xFF, byte]), chance.pick(&[0x1F, 0x20, 0xFF])];
             (3, vec![fan, low, high])
         }
         3 => (4, vec![fan, byte]),
+        4 | 5 => (6, near_part(chance)),
         _ => (5, near_read(chance)),
     };
     let end = at + 4 + usize::from(log[at + 3]);
     let record = [&[MARK[0], MARK[1], kind, payload.len() as u8], &payload[..]].concat();
     log.splice(at..end, record);
+}
+
+/// The payload of a part's power-on, with its address or its number of fans out of range, both, or neither.
+fn near_part(chance: &mut Chance) -> Vec<u8> {
+    let address = chance.pick(&[0x2C, 0x2C, 0x7F, 0x80, 0xFF]);
+    let byte = chance.byte();
+    vec![address, chance.pick(&[0, 1, 2, 3, 4, 5, 0xFF, byte])]
 }
 
 /// The payload of a read from any address, with n or the clocked number out of range, both, or neither.

@@ -131,6 +131,7 @@ fn event_of<'a>(event: &model::log::Event, log: &'a [u8]) -> Event<'a> {
                 Event::Write { address, bytes }
             }
         }
+        model::log::Event::PowerOnPart { address, fans } => Event::PowerOnPart { address, fans },
     }
 }
 
@@ -154,6 +155,7 @@ fn event_to(event: &Event) -> (model::log::Event, Vec<u8>) {
         Event::Wish { fan, drive } => (model::log::Event::Wish { fan, drive }, Vec::new()),
         Event::Write { address, bytes } => transfer(address, false, bytes),
         Event::Read { address, count } => transfer(address, true, &[count]),
+        Event::PowerOnPart { address, fans } => (model::log::Event::PowerOnPart { address, fans }, Vec::new()),
     }
 }
 

@@ -1,7 +1,7 @@
 //! Traffic: records laid as document 01 says, by its figures, so that the things which its rules speak of happen.
 //!
 //! A log is a row of scenes. Half of them begin with a power-on, so that they go as meant; the others meet whatever the scenes
-//! before them left: a lock, a loop, a spin-up, a watch.
+//! before them left: a lock, a loop, a spin-up, a watch. One power-on in three is that of a part with fewer fans.
 use crate::chance::Chance;
 
 pub const MARK: [u8; 2] = [0x9C, 0x46];
@@ -11,6 +11,8 @@ const PERIODS: [usize; 8] = [8, 16, 24, 32, 40, 64, 96, 128];
 const SPIN_UP_LENGTHS: [usize; 4] = [20, 40, 80, 160];
 const WATCH_TICKS: usize = 320;
 const LARGEST_SAMPLE: usize = 8191;
+/// How many fans the parts of kind 6 have.
+const PARTS: [usize; 3] = [1, 2, 3];
 /// As many samples a fan as a report takes.
 pub const MOST_SAMPLES: usize = 65_535;
 
@@ -39,6 +41,8 @@ pub struct Traffic<'a> {
     /// Where its records start.
     pub starts: Vec<usize>,
     address: u8,
+    /// How many fans the chip has, as far as the log goes as meant.
+    present: usize,
     chance: &'a mut Chance,
 }
 
@@ -78,6 +82,7 @@ impl<'a> Traffic<'a> {
             log: Vec::new(),
             starts: Vec::new(),
             address: chance.pick(&[0x2C, 0x2D, 0x00, 0x7F]),
+            present: FANS,
             chance,
         }
     }
@@ -91,12 +96,27 @@ impl Traffic<'_> {
         self.log.extend(payload);
     }
 
-    /// At the address so far, seldom at another one.
+    /// Of five fans or of a part.
     fn power_on(&mut self) {
+        let fans = if self.chance.one_in(3) {
+            self.chance.pick(&PARTS)
+        } else {
+            FANS
+        };
+        self.power_on_with(fans);
+    }
+
+    /// At the address so far, seldom at another one.
+    fn power_on_with(&mut self, fans: usize) {
         if self.chance.one_in(8) {
             self.address = self.chance.below(128) as u8;
         }
-        self.record(1, &[self.address]);
+        self.present = fans;
+        if fans == FANS {
+            self.record(1, &[self.address]);
+        } else {
+            self.record(6, &[self.address, fans as u8]);
+        }
     }
 
     fn ticks(&mut self, count: usize) {
@@ -156,7 +176,7 @@ impl Traffic<'_> {
         if self.chance.one_in(2) {
             self.power_on();
         }
-        match self.chance.below(18) {
+        match self.chance.below(21) {
             0 => self.any_write(),
             1 => self.wrapping(),
             2 => self.locking(),
@@ -169,6 +189,8 @@ impl Traffic<'_> {
             13 => self.resting_loop(),
             14 => self.held_rotor(),
             15 | 16 => self.speeding(),
+            17 | 18 => self.part(),
+            19 => self.absent_watch(),
             _ => (0..self.chance.between(1, 12)).for_each(|_| self.small_event()),
         }
         match self.chance.below(4) {
@@ -223,6 +245,114 @@ impl Traffic<'_> {
             _ => self.read(32),
         }
         self.address = own;
+    }
+
+    /// A part, with traffic at its edge and past it; at times another power-on behind it, and all Settings.
+    fn part(&mut self) {
+        let fans = self.chance.pick(&PARTS);
+        self.power_on_with(fans);
+        for _ in 0..self.chance.between(2, 10) {
+            self.absent_event();
+        }
+        if self.chance.one_in(3) {
+            self.power_on();
+            for fan in 0..FANS {
+                self.set(fan_at(fan).base + SETTING, 0x40);
+                self.read(1);
+            }
+        }
+    }
+
+    /// What is aimed at absent fans, or at the edge of the registers that there are; or any event.
+    fn absent_event(&mut self) {
+        let at = self.absent_fan();
+        match self.chance.below(12) {
+            0 => {
+                let count = self.any_count();
+                self.sample(at.fan, count);
+            }
+            1 => {
+                let drive = self.chance.byte();
+                self.wish(at.fan, drive);
+            }
+            2 | 3 => self.absent_register(at),
+            4 | 5 => self.edge_block(),
+            6 => self.stalled_part(at),
+            7 => {
+                let enable = self.chance.byte();
+                self.set(ENABLE, enable);
+                self.read(1);
+            }
+            8 => self.show(STATUS, 4),
+            9 => self.held_rotor(),
+            _ => self.small_event(),
+        }
+    }
+
+    /// A register of an absent fan, written and read.
+    fn absent_register(&mut self, at: FanAt) {
+        let register = at.base + self.chance.below(16) as u8;
+        let byte = self.chance.byte();
+        self.set(register, byte);
+        self.read(1);
+        self.ticks(40);
+        self.read(1);
+    }
+
+    /// Blocks that go into the absent registers, lie in them or come out of them, written or read.
+    fn edge_block(&mut self) {
+        let edge = 0x30 + 0x10 * self.present;
+        let out = 0x80 - self.chance.between(1, 20);
+        let first = self.chance.pick(&[edge - 16, edge - 3, edge - 1, edge, edge + 1, out]);
+        let count = self.chance.between(2, 31);
+        if self.chance.one_in(2) {
+            let bytes = self.chance.bytes(count);
+            self.write(&[&[first as u8], &bytes[..]].concat());
+            self.read(1);
+        }
+        self.show(first as u8, count);
+        self.read(2);
+    }
+
+    /// A fan that there is and an absent one, both set and sampled, all enabled.
+    fn stalled_part(&mut self, at: FanAt) {
+        let beside = fan_at(self.chance.below(self.present));
+        for at in [beside, at] {
+            self.set(at.base + SPIN_UP, 0x18);
+            self.set(at.base + SETTING, 0x80);
+        }
+        self.ticks(20);
+        for at in [at, beside] {
+            self.sample(at.fan, LARGEST_SAMPLE);
+        }
+        self.set(ENABLE, 0xFF);
+        for register in [0x24, 0x25, 0x26] {
+            self.show(register, 1);
+        }
+    }
+
+    /// The power-up watch of a part, with a write to an absent fan that would end it; or the continuous one, which a transfer
+    /// to an absent register feeds and what is refused does not.
+    fn absent_watch(&mut self) {
+        let fans = self.chance.pick(&PARTS);
+        self.power_on_with(fans);
+        let (at, beside) = (self.absent_fan(), fan_at(self.chance.below(fans)));
+        if self.chance.one_in(2) {
+            self.set(CONFIGURATION, 0x60);
+        }
+        let before = self.chance.between(1, WATCH_TICKS - 1);
+        self.ticks(before);
+        match self.chance.below(6) {
+            0 => self.set(at.base + SETTING, 0x80),
+            1 => self.set(at.base + SETTING, 0),
+            2 => self.set(at.base + CONFIGURATION_1, 0xAB),
+            3 => self.write(&[at.base - 1, 0, 0x80, 0x01, 0xAB]),
+            4 => self.sample(at.fan, LARGEST_SAMPLE),
+            _ => self.wish(at.fan, 0x80),
+        }
+        let edge = self.chance.pick(&[WATCH_TICKS - before, WATCH_TICKS]);
+        self.beside_the_edge(beside, edge);
+        self.show(at.base, 16);
     }
 
     /// Any register, one data byte or a block.
@@ -548,6 +678,7 @@ impl Traffic<'_> {
     fn crowding(&mut self, at: FanAt) {
         let mut left = MOST_SAMPLES - usize::from(self.chance.one_in(8));
         while left > 0 {
+            self.bring_back(at);
             let (many, count) = (self.chance.between(1, left), self.any_count());
             (0..many).for_each(|_| self.sample(at.fan, count));
             left -= many;
@@ -557,17 +688,34 @@ impl Traffic<'_> {
         }
     }
 
-    /// One sample more of the fan, one that is damaged, other records, or a log that ends inside it.
+    /// A power-on of enough fans where this one is absent, which a sample shows first.
+    fn bring_back(&mut self, at: FanAt) {
+        if at.fan >= self.present {
+            self.sample(at.fan, LARGEST_SAMPLE);
+            let fans: Vec<usize> = [1, 2, 3, FANS].into_iter().filter(|&fans| at.fan < fans).collect();
+            let fans = self.chance.pick(&fans);
+            self.power_on_with(fans);
+        }
+    }
+
+    /// One sample more of the fan, one while it is absent, one that is damaged, other records, or a log that ends inside it.
     fn behind_the_crowd(&mut self, at: FanAt) {
         let any = self.any_count();
         let count = self.chance.pick(&[0, any]);
-        match self.chance.below(8) {
+        match self.chance.below(12) {
             0 => {}
             1 => self.record(3, &[at.fan as u8 + 1, 0x00, 0x20]),
             2 => self.record(3, &[at.fan as u8 + 1, 0x00]),
             3 => {
                 self.sample(at.fan, count);
                 self.log.pop();
+            }
+            4..=7 => {
+                let fans = self.chance.between(1, at.fan.clamp(1, 3));
+                self.power_on_with(fans);
+                self.sample(at.fan, count);
+                self.bring_back(at);
+                self.sample(at.fan, count);
             }
             _ => {
                 self.small_event();
@@ -693,8 +841,16 @@ impl Traffic<'_> {
         }
     }
 
+    /// Mostly one that there is.
     fn any_fan(&mut self) -> FanAt {
-        fan_at(self.chance.below(FANS))
+        let fans = if self.chance.one_in(8) { FANS } else { self.present };
+        fan_at(self.chance.below(fans))
+    }
+
+    /// An absent one; where there are five, the last.
+    fn absent_fan(&mut self) -> FanAt {
+        let first = self.present.min(FANS - 1);
+        fan_at(self.chance.between(first, FANS - 1))
     }
 
     fn any_step(&mut self) -> u8 {

@@ -33,7 +33,7 @@ fn the_logs_are_not_dull() {
 #[test]
 fn logs_of_every_kind() {
     let (mut empty, mut long, mut over_the_buffer) = (0, 0, 0);
-    let mut ends: BTreeMap<u8, u64> = [0, 1, 2, 3, 4, 5, 9, 10, 11].map(|number| (number, 0)).into();
+    let mut ends: BTreeMap<u8, u64> = [0, 1, 2, 3, 4, 5, 9, 10, 11, 15].map(|number| (number, 0)).into();
     for seed in 1..=LOGS {
         let log = generate::log(seed);
         let Run { number, place, .. } = replay::run(&log, &mut vec![0; cobblehard::replies_room(log.len())]);
@@ -82,6 +82,12 @@ fn faults(event: &Event) -> &'static str {
             (false, true) => "read clocked number",
             (false, false) => "nothing",
         },
+        Event::PowerOnPart { address, fans } => match (address > 127, !(1..=3).contains(&fans)) {
+            (true, true) => "part address and number",
+            (true, false) => "part address",
+            (false, true) => "part number",
+            (false, false) => "nothing",
+        },
         _ => "nothing",
     }
 }
@@ -122,7 +128,7 @@ fn events_of_every_fault_are_written() {
     (1..=LOGS / 20).for_each(|seed| assert_eq!(difference(&counting, &generate::log(seed)), None));
     let counts = counting.0.into_inner();
     assert!(
-        counts.len() == 12 && counts.values().all(|&count| count >= 20),
+        counts.len() == 15 && counts.values().all(|&count| count >= 20),
         "{counts:?}"
     );
 }
@@ -451,13 +457,22 @@ fn every_lie_is_found() {
     }
 }
 
+/// The address bytes of a log that is a power-on, of five fans or of a part, and a read of one byte.
+fn power_on_and_read(log: &[u8]) -> Option<[u8; 2]> {
+    match *log {
+        [0x9C, 0x46, 1, 1, address, 0x9C, 0x46, 5, 2, read, 1]
+        | [0x9C, 0x46, 6, 2, address, _, 0x9C, 0x46, 5, 2, read, 1] => Some([address, read]),
+        _ => None,
+    }
+}
+
 #[test]
 fn a_failure_is_made_small() {
     let failure = found(Lie::ReplyBit);
-    assert_eq!(
-        failure.log,
-        [0x9C, 0x46, 1, 1, 0x2C, 0x9C, 0x46, 5, 2, 0x59, 1],
-        "a power-on and a read"
+    let addresses = power_on_and_read(&failure.log);
+    assert!(
+        addresses.is_some_and(|[address, read]| read == address * 2 + 1),
+        "{failure}"
     );
     let stall = found(Lie::StallStatus);
     assert!(stall.log.len() <= 60, "{stall}");
@@ -471,7 +486,8 @@ fn a_failure_tells_its_seed_and_log() {
         text.starts_with(&format!("seed {}: the replies", failure.seed)),
         "{text}"
     );
-    assert!(text.contains("  9C 46 01 01 2C\n  9C 46 05 02 59 01\n"), "{text}");
+    let [_, read] = power_on_and_read(&failure.log).expect("the log is made small");
+    assert!(text.contains(&format!("\n  9C 46 05 02 {read:02X} 01\n")), "{text}");
     let log = generate::log(failure.seed);
     assert!(
         difference(&Wrong(Lie::ReplyBit), &log).is_some(),

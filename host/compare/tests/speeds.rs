@@ -11,6 +11,8 @@ use std::cell::RefCell;
 use std::collections::BTreeMap;
 
 const LOGS: u64 = 20_000;
+/// So many are looked at for what they ask.
+const ASKED: u64 = LOGS / 10;
 const LIMIT: u64 = 65_535;
 
 // ---- one sample ----
@@ -84,11 +86,11 @@ impl Subject for Counting {
 #[test]
 fn every_poles_slice_and_argument_is_asked_with() {
     let counting = Counting::default();
-    (1..=LOGS / 20).for_each(|seed| assert_eq!(difference(&counting, &generate::log(seed)), None));
+    (1..=ASKED).for_each(|seed| assert_eq!(difference(&counting, &generate::log(seed)), None));
     let (poles, entries) = (counting.poles.into_inner(), counting.entries.into_inner());
     let arguments = counting.arguments.into_inner();
     assert!(
-        poles.len() == 10 && (1..=4).all(|right| poles[&right] == LOGS / 20) && poles.values().all(|&times| times >= 5),
+        poles.len() == 10 && (1..=4).all(|right| poles[&right] == ASKED) && poles.values().all(|&times| times >= 5),
         "{poles:?}"
     );
     for length in [0, 1, 24, 25, 26] {
@@ -334,7 +336,7 @@ impl Adding<'_> {
             log::Event::Sample { fan, count } if taken || self.lie == Lie::RefusedAdded => {
                 self.sample(usize::from(fan - 1), count, next)
             }
-            log::Event::PowerOn { .. } => self.power_on(),
+            log::Event::PowerOn { .. } | log::Event::PowerOnPart { .. } => self.power_on(),
             _ if !taken && self.lie == Lie::StopsAt6 => self.stop(6),
             _ => true,
         };

@@ -6,7 +6,7 @@ use model::log::{read, Event};
 use model::speeds::rpm;
 
 /// What is counted by name; each m with each number of edges has a name of its own.
-pub const NAMES: [&str; 23] = [
+pub const NAMES: [&str; 28] = [
     "sample of count 0 taken",
     "sample of count 0 ahead of any other of its fan",
     "sample of count 1 taken",
@@ -18,6 +18,11 @@ pub const NAMES: [&str; 23] = [
     "sample behind one of the same fan at another setting",
     "sample behind a power-on that is behind a sample of the same fan",
     "sample refused before power-on",
+    "sample of an absent fan that has samples",
+    "sample of an absent fan that has none",
+    "sample on a part behind one of the same fan",
+    "sample of a full fan that is absent",
+    "number 14 behind a sample of the fan while absent",
     "fan with samples",
     "fan with no samples",
     "fan with zero counts alone",
@@ -57,6 +62,8 @@ struct Seen {
     /// A power-on came after the last sample, and between two.
     powered_on: bool,
     parted: bool,
+    /// A sample of it was refused with 21 since it was full.
+    absent: bool,
 }
 
 impl Seen {
@@ -72,25 +79,41 @@ impl Coverage {
         while let Ok(Some((event, next))) = read(log, place) {
             let taken = chip.step(&event, log, &mut [0; ROOM]).is_ok();
             match event {
-                Event::Sample { .. } if !taken => self.count("sample refused before power-on", true),
+                Event::Sample { .. } if chip.address.is_none() => self.count("sample refused before power-on", true),
+                Event::Sample { fan, .. } if !taken => self.refused_with_21(&mut seen[usize::from(fan - 1)]),
                 Event::Sample { fan, count } => {
                     let index = usize::from(fan - 1);
                     if seen[index].full() {
                         self.count("number 14", true);
                         self.count("number 14 for a sample of count 0", count == 0);
+                        self.count("number 14 behind a sample of the fan while absent", seen[index].absent);
                         return;
                     }
                     let others = seen.iter().enumerate().filter(|&(other, _)| other != index);
                     let full = others.filter(|(_, seen)| seen.full()).count() > 0;
                     self.count("sample of another fan when one is full", full);
+                    self.count(
+                        "sample on a part behind one of the same fan",
+                        chip.present < FANS && seen[index].configuration1.is_some(),
+                    );
                     self.taken(&mut seen[index], chip.fans[index].registers[CONFIGURATION_1], count);
                 }
-                Event::PowerOn { .. } => seen.iter_mut().for_each(|seen| seen.powered_on = true),
+                Event::PowerOn { .. } | Event::PowerOnPart { .. } => {
+                    seen.iter_mut().for_each(|seen| seen.powered_on = true);
+                }
                 _ => {}
             }
             place = next;
         }
         self.report_end(&chip, &seen, &log[place..]);
+    }
+
+    fn refused_with_21(&mut self, seen: &mut Seen) {
+        let some = seen.configuration1.is_some();
+        self.count("sample of an absent fan that has samples", some);
+        self.count("sample of an absent fan that has none", !some);
+        self.count("sample of a full fan that is absent", seen.full());
+        seen.absent |= seen.full();
     }
 
     fn taken(&mut self, seen: &mut Seen, configuration1: u8, count: u16) {
