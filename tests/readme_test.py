@@ -16,7 +16,7 @@ ROOT = pathlib.Path(__file__).resolve().parent.parent
 GATE = "bash .ci/run"
 TIMEOUT = 1200  # seconds, after which a command counts as hanging
 SAMPLES = ROOT / "samples"
-COMMANDS, OUTPUTS = 12, 8  # what README.md has besides the gate's command
+COMMANDS, OUTPUTS = 13, 9  # what README.md has besides the gate's command
 HEX = re.compile(r"^((?:[0-9A-F]{2} )+) ", re.MULTILINE)
 FENCED = re.compile(r"^ *```(\w*)\n(.*?)^ *```$", re.MULTILINE | re.DOTALL)
 
