@@ -27,9 +27,13 @@ use Rattle.emc2305.specs.Transfers.{sent, replyOf, readOut}
 abbrev pub beforePower : Bool → Event → Bool
 beforePower powered event = not (isPowerOn event) && not powered
 
--- a sample or a wish for a fan that the part does not have
+-- a sample or a wish for a fan past the first so many
+abbrev pub forPast : ℕ → Event → Bool
+forPast fans event = onSample (onWish false (λ fan drive. ltb fans fan) event) (λ fan count. ltb fans fan) event
+
+-- one for a fan that the part does not have
 abbrev pub absent : Part → Event → Bool
-absent part event = onSample (onWish false (λ fan drive. ltb (fansOf part) fan) event) (λ fan count. ltb (fansOf part) fan) event
+absent part event = forPast (fansOf part) event
 
 -- transfer to another address
 abbrev pub elsewhere : ℕ → Event → Bool

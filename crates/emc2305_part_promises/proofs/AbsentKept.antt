@@ -22,7 +22,8 @@ use Rattle.emc2305.proofs.Effects.{by-effect}
 use Rattle.emc2305.proofs.Parts.{after-part, absent-fans}
 use Rattle.walks.specs.Sequence.{Handed}
 use Rattle.walks.specs.Sequence as any
-use Rattle.emc2305_part_promises.specs.Alike.{next, numberOf, afterAll}
+use Rattle.emc2305_promises.specs.Ramp.{next, afterAll}
+use Rattle.emc2305_part_promises.specs.Alike.{numberOf}
 use Rattle.emc2305_part_promises.specs.Promises.{AbsentKept}
 use Rattle.emc2305_part_promises.proofs.Starts.{each-of-five}
 use Rattle.emc2305_part_promises.proofs.Steps.{next-taken, next-refused}

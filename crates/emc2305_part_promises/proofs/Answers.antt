@@ -30,7 +30,8 @@ use Rattle.emc2305.proofs.Numbers.{numbered}
 use Rattle.emc2305.proofs.Turns.{reply-length}
 use Rattle.emc2305.proofs.Pointers.{reply-at}
 use Rattle.walks.specs.Sequence.{Handed}
-use Rattle.emc2305_part_promises.specs.Alike.{numberOf, AsFive, ofOthers, readFrom, AnswerAlike}
+use Rattle.emc2305_promises.specs.Held.{readFrom}
+use Rattle.emc2305_part_promises.specs.Alike.{numberOf, AsFive, ofOthers, AnswerAlike}
 use Rattle.emc2305_part_promises.proofs.Shown.{by-five, same-shown}
 use Rattle.emc2305_part_promises.proofs.Operations.{fed-alike, byte-read-alike, repeated-alike}
 
@@ -124,7 +125,7 @@ answer-alike h c d a =
     let x = cond s (replyTo log event c) [] in
     let y = cond t (replyTo log event d) [] in
     (length x ≡ length y)
-    × ((k : ℕ) → k < length y → getD x k 0 ≡ cond (ofOthers (fanCount c) (readFrom h k d)) 0x00 (getD y k 0)) in
+    × ((k : ℕ) → k < length y → getD x k 0 ≡ cond (ofOthers (fanCount c) (readFrom k h d)) 0x00 (getD y k 0)) in
     let reply : Same (eqb (numberOf h c) 0) (eqb (numberOf h d) 0) =
     by-number h c d a
     (λ e.

@@ -26,12 +26,13 @@ use Rattle.emc2305_chip.specs.Registers.{atDefaults, unpowered, onFan}
 use Rattle.emc2305_chip.specs.Ticks.{chipTicked}
 use Rattle.emc2305.specs.declared.Answer.{Answer}
 use Rattle.emc2305.specs.Transfers.{byteRead}
-use Rattle.emc2305.specs.Step.{absent, stepNumber, taken, stepped}
+use Rattle.emc2305.specs.Step.{forPast, absent, stepNumber, taken, stepped}
 use Rattle.emc2305.proofs.Effects.{Powering, Idle, by-effect}
 use Rattle.emc2305.proofs.Numbers.{numbered, step-numbers}
 use Rattle.walks.specs.Sequence.{Handed}
 use Rattle.walks.specs.Sequence as any
-use Rattle.emc2305_part_promises.specs.Alike.{next, isTaken, numberOf, withPart, AsFive, forOthers, writesKept, keptFrom, nextKept, afterKept, AnswersAlike}
+use Rattle.emc2305_promises.specs.Ramp.{next, isTaken}
+use Rattle.emc2305_part_promises.specs.Alike.{numberOf, withPart, AsFive, writesKept, keptFrom, nextKept, afterKept, AnswersAlike}
 use Rattle.emc2305_part_promises.specs.Promises.{AlikeStep, Alike, AlikeFromStart}
 use Rattle.emc2305_part_promises.proofs.Starts.{starts-alike}
 use Rattle.emc2305_part_promises.proofs.Shown.{by-five}
@@ -39,7 +40,7 @@ use Rattle.emc2305_part_promises.proofs.Operations.{tick-alike, fed-ali
 use Rattle.emc2305_part_promises.proofs.Answers.{by-number, answer-alike}
 
 -- an event that is no sample, no wish and no transfer
-pub plain : (count : ℕ) (log : List ℕ) (d : Chip) (e : Event) → forOthers count e ≡ false
+pub plain : (count : ℕ) (log : List ℕ) (d : Chip) (e : Event) → forPast count e ≡ false
     → ((other : Chip) (of : Bool → ℕ → ℕ → ℕ → Chip) → onTransfer other of e ≡ other) → keptFrom count log e d ≡ withPart Emc2305 (taken log e d)
 plain count log d e f t = ap (λ (b : Bool). cond b d (writesKept count log e d)) f ∙ t (withPart Emc2305 (taken log e d)) _
 

@@ -27,7 +27,7 @@ use Rattle.emc2305_chip.specs.Registers.{storesAt}
 use Rattle.emc2305_chip.proofs.Maps.{Placed, placed}
 use Rattle.emc2305_chip.proofs.Ways.{writes-nothing}
 use Rattle.emc2305.specs.Transfers.{passed, byteWritten, inTurn, sent}
-use Rattle.emc2305.specs.Step.{taken}
+use Rattle.emc2305.specs.Step.{forPast, taken}
 use Rattle.emc2305.specs.Traffic.{byteStoresTo, anyStoresTo, sentStoresTo, storesTo, isSampleOf, isWishFor}
 use Rattle.emc2305.proofs.Effects.{by-effect}
 use Rattle.emc2305.proofs.Parts.{byte-part, taken-part, after-part}
@@ -35,7 +35,9 @@ use Rattle.walks.specs.Sequence.{Handed}
 use Rattle.walks.specs.Sequence as any
 use Rattle.walks.proofs.Sequences.{first-rest}
 use Rattle.emc2305_run.specs.Device.{emc2305}
-use Rattle.emc2305_part_promises.specs.Alike.{next, isTaken, numberOf, withPart, AsFive, pastFan, ofOthers, byteKept, inTurnKept, sentKept, forOthers, keptFrom, nextKept, noPowerOn, undrivenBy, numbersOf, AnswersAlike}
+use Rattle.emc2305_promises.specs.Ramp.{next, isTaken, noPowerOn}
+use Rattle.emc2305_promises.specs.Busy.{numbersOf}
+use Rattle.emc2305_part_promises.specs.Alike.{numberOf, withPart, AsFive, pastFan, ofOthers, byteKept, inTurnKept, sentKept, keptFrom, nextKept, undrivenBy, AnswersAlike}
 use Rattle.emc2305_part_promises.specs.Promises.{Untouched, SameTraffic}
 use Rattle.emc2305_part_promises.proofs.Operations.{kept-other, kept-own}
 use Rattle.emc2305_part_promises.proofs.Answers.{by-number}
@@ -89,7 +91,7 @@ untouched count log event d five =
     λ e p. still (taken log e d) (taken-part log e d p ∙ five) in
     by-effect
     (λ (e : Event).
-    isPowerOn e ≡ false → forOthers count e ≡ false → ((i : ℕ) → count ≤ i → i < 5 → storesTo i log e d ≡ false)
+    isPowerOn e ≡ false → forPast count e ≡ false → ((i : ℕ) → count ≤ i → i < 5 → storesTo i log e d ≡ false)
     → keptFrom count log e d ≡ taken log e d)
     (λ e on p f none. absurd (true≢false (sym (on .powers) ∙ p))) (λ n p f none. kept (Ticks n) p) (λ fan n p f none. rw f (kept (Sample fan n) p))
     (λ fan drive p f none. rw f (kept (Wish fan drive) p)) (λ to place n p f none. refl)
@@ -108,10 +110,10 @@ module _ (count : ℕ) (log : List ℕ) (d : Chip) where
       let past = ltb-true count fan t in
       eqb-false fan (fan - 1 + 1) (none (fan - 1) (omega arith) (omega arith)) (omega arith)
 
-  for-none : (event : Event) → rangeNumber log event ≡ 0 → ((i : ℕ) → count ≤ i → i < 5 → driven i event ≡ false) → forOthers count event ≡ false
+  for-none : (event : Event) → rangeNumber log event ≡ 0 → ((i : ℕ) → count ≤ i → i < 5 → driven i event ≡ false) → forPast count event ≡ false
   for-none =
       by-effect
-      (λ (e : Event). rangeNumber log e ≡ 0 → ((i : ℕ) → count ≤ i → i < 5 → driven i e ≡ false) → forOthers count e ≡ false)
+      (λ (e : Event). rangeNumber log e ≡ 0 → ((i : ℕ) → count ≤ i → i < 5 → driven i e ≡ false) → forPast count e ≡ false)
       (λ e on r none. on .no-sample _ _ ∙ on .no-wish _ _) (λ n r none. refl)
       (λ fan n r none.
       by-test (ltb count fan) (λ t. absurd (same-fan fan (fan-right log (Sample fan n) r) t (λ i h l. or-left (eqb fan (i + 1)) _ (none i h l)))) (λ t. t))
@@ -131,7 +133,7 @@ module _ (h : Handed) (c d : Chip) (a : AsFive c d) (quiet : noPowerOn h d ≡ t
   none-driven : numberOf h d ≡ 0 → (i : ℕ) → fanCount c ≤ i → i < 5 → driven (fanCount c) log d i event ≡ false
   none-driven e i g l = not-true (driven (fanCount c) log d i event) (rw (eq-eqb (numberOf h d) 0 e) at (nobody i g l))
 
-  for-none-there : numberOf h d ≡ 0 → forOthers (fanCount c) event ≡ false
+  for-none-there : numberOf h d ≡ 0 → forPast (fanCount c) event ≡ false
   for-none-there e = for-none (fanCount c) log d event (next-taken h d e .1) (none-driven e)
 
   same-number : numberOf h c ≡ numberOf h d

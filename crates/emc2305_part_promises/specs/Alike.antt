@@ -3,12 +3,11 @@ use mathlib.Core.Path.{_≡_}
 use mathlib.Core.Bool.{Bool, false, cond, not, _&&_, _||_}
 use mathlib.Core.List.{List, [], _∷_}
 use Prim.Native.Nat.{ℕ, _≤_, _<_}
-use lib.Dec.{leb, ltb, eqb}
+use lib.Dec.{leb, eqb}
 use lib.ListN.{length, getD}
 use Rattle.laws.specs.Buffer.{bytesAt}
-use Rattle.laws.specs.Repeat.{repeated}
 use Rattle.eventlog.specs.declared.Event.{Event}
-use Rattle.eventlog.specs.Kinds.{onSample, onWish, onTransfer, isPowerOn, replyLength}
+use Rattle.eventlog.specs.Kinds.{onTransfer}
 use Rattle.emc2305_parts.specs.declared.Part.{Part}
 use Rattle.emc2305_parts.specs.declared.Part.the-variants.{Emc2305}
 use Rattle.emc2305_fan.specs.declared.Fan.{Fan}
@@ -19,28 +18,13 @@ use Rattle.emc2305_chip.specs.State.{fanCount, withFans, withPointer}
 use Rattle.emc2305_chip.specs.Map.{registerOf}
 use Rattle.emc2305_chip.specs.Fans.{fanAt}
 use Rattle.emc2305_chip.specs.Watching.{fedChip}
-use Rattle.emc2305.specs.Transfers.{passed, byteWritten, byteRead}
-use Rattle.emc2305.specs.Step.{absent, taken, stepped}
+use Rattle.emc2305.specs.Transfers.{passed, byteWritten}
+use Rattle.emc2305.specs.Step.{forPast, absent, taken, stepped}
 use Rattle.emc2305.specs.Traffic.{storesTo, isSampleOf, isWishFor}
 use Rattle.walks.specs.Sequence.{Handed}
-use Rattle.walks.specs.Sequence as any
-use Rattle.emc2305_run.specs.Device.{replyGiven, emc2305}
-
--- the chip after an event
-abbrev pub next : Handed → Chip → Chip
-next = any.next emc2305
-
--- an event is taken: its number is 0
-abbrev pub isTaken : Handed → Chip → Bool
-isTaken = any.isTaken emc2305
-
--- the chip after a sequence of events
-abbrev pub afterAll : List Handed → Chip → Chip
-afterAll = any.afterAll emc2305
-
--- a rule holds at each event of a sequence, in the chip that the event meets
-abbrev pub throughout : (Handed → Chip → Bool) → List Handed → Chip → Bool
-throughout = any.throughout emc2305
+use Rattle.emc2305_run.specs.Device.{replyGiven}
+use Rattle.emc2305_promises.specs.Ramp.{next, isTaken}
+use Rattle.emc2305_promises.specs.Held.{readFrom}
 
 -- the number of the step that an event meets
 abbrev pub numberOf : Handed → Chip → ℕ
@@ -110,10 +94,6 @@ unfoldable pub sentKept : ℕ → List ℕ → Chip → Chip
 sentKept count [] d = d
 sentKept count (pointer ∷ rest) d = inTurnKept count (length rest) rest (withPointer pointer d)
 
--- a sample or a wish for a fan past the first so many
-abbrev pub forOthers : ℕ → Event → Bool
-forOthers count event = onSample (onWish false (λ fan drive. ltb count fan) event) (λ fan n. ltb count fan) event
-
 -- an event that is taken, where of a write the bytes to registers of those fans do nothing; a power-on of whichever part is one of the five-fan part
 abbrev pub writesKept : ℕ → List ℕ → Event → Chip → Chip
 writesKept count log event d =
@@ -122,7 +102,7 @@ writesKept count log event d =
 
 -- an event that is taken, kept from those fans: besides, a sample or a wish for one of them does nothing
 abbrev pub keptFrom : ℕ → List ℕ → Event → Chip → Chip
-keptFrom count log event d = cond (forOthers count event) d (writesKept count log event d)
+keptFrom count log event d = cond (forPast count event) d (writesKept count log event d)
 
 -- the chip after an event that is kept from those fans; one that is refused does nothing
 abbrev pub nextKept : ℕ → Handed → Chip → Chip
@@ -133,10 +113,6 @@ unfoldable pub afterKept : List Handed → Chip → Chip → Chip
 afterKept [] c d = d
 afterKept (h ∷ rest) c d = afterKept rest (next h c) (nextKept (fanCount c) h d)
 
--- the address from which byte k of a reply is read
-abbrev pub readFrom : Handed → ℕ → Chip → ℕ
-readFrom h k d = repeated k (byteRead (replyLength (h .log) (h .event))) (fedChip d) .pointer
-
 -- the two answer an event alike: the same number, but for 21 where the chip does not have the fan of a sample or a wish that the other takes; replies of
 -- the same length, in which each byte is the same, but for 00h where it is read from a register of a fan that the chip does not have
 abbrev pub AnswerAlike : Handed → Chip → Chip → Type 0
@@ -144,22 +120,13 @@ AnswerAlike h c d =
     (numberOf h c ≡ cond (absent (c .part) (h .event) && eqb (numberOf h d) 0) 21 (numberOf h d))
     × (length (replied h c) ≡ length (replied h d))
     × ((k : ℕ) → k < length (replied h d)
-    → getD (replied h c) k 0 ≡ cond (ofOthers (fanCount c) (readFrom h k d)) 0x00 (getD (replied h d) k 0))
+    → getD (replied h c) k 0 ≡ cond (ofOthers (fanCount c) (readFrom k h d)) 0x00 (getD (replied h d) k 0))
 
 -- they answer each event of a sequence alike; what an event makes of the five-fan part is given, by how many fans the chip has then
 unfoldable pub AnswersAlike : (ℕ → Handed → Chip → Chip) → List Handed → Chip → Chip → Type 0
 AnswersAlike become [] c d = Unit {0}
 AnswersAlike become (h ∷ rest) c d = AnswerAlike h c d × AnswersAlike become rest (next h c) (become (fanCount c) h d)
 
--- no power-on is taken
-abbrev pub noPowerOn : Handed → Chip → Bool
-noPowerOn h d = not (isTaken h d && isPowerOn (h .event))
-
 -- nobody drives fan i + 1: no sample of it, no wish for it, and no stored write to its registers
 abbrev pub undrivenBy : ℕ → Handed → Chip → Bool
 undrivenBy i h d = not (isTaken h d && (isSampleOf i (h .event) || (isWishFor i (h .event) || storesTo i (h .log) (h .event) d)))
-
--- the numbers of the events of a sequence, in turn
-unfoldable pub numbersOf : List Handed → Chip → List ℕ
-numbersOf [] c = []
-numbersOf (h ∷ rest) c = numberOf h c ∷ numbersOf rest (next h c)

@@ -15,10 +15,12 @@ use Rattle.emc2305_chip.specs.declared.Chip.{Chip}
 use Rattle.emc2305_chip.specs.State.{fanCount}
 use Rattle.emc2305_chip.specs.Fans.{fanAt}
 use Rattle.emc2305_chip.specs.Registers.{atDefaults, unpowered, stallByte, spinByte, statusByte, alertLine, shownAt}
-use Rattle.emc2305.specs.Step.{taken}
+use Rattle.emc2305.specs.Step.{forPast, taken}
 use Rattle.emc2305.specs.Traffic.{storesTo}
 use Rattle.walks.specs.Sequence.{Handed}
-use Rattle.emc2305_part_promises.specs.Alike.{next, afterAll, throughout, withPart, AsFive, ofOthers, forOthers, keptFrom, nextKept, afterKept, AnswerAlike, AnswersAlike, noPowerOn, undrivenBy, numbersOf}
+use Rattle.emc2305_promises.specs.Ramp.{next, afterAll, throughout, noPowerOn}
+use Rattle.emc2305_promises.specs.Busy.{numbersOf}
+use Rattle.emc2305_part_promises.specs.Alike.{withPart, AsFive, ofOthers, keptFrom, nextKept, afterKept, AnswerAlike, AnswersAlike, undrivenBy}
 
 -- any part at its defaults, and the five-fan part at its own, which are those of any other part
 abbrev pub StartsAlike : Type 0
@@ -55,7 +57,7 @@ AlikeFromStart =
 -- nothing is kept from the five-fan part of an event that is no power-on and reaches none of those fans
 abbrev pub Untouched : Type 0
 Untouched =
-    (count : ℕ) (log : List ℕ) (event : Event) (d : Chip) → d .part ≡ Emc2305 → isPowerOn event ≡ false → forOthers count event ≡ false
+    (count : ℕ) (log : List ℕ) (event : Event) (d : Chip) → d .part ≡ Emc2305 → isPowerOn event ≡ false → forPast count event ≡ false
     → ((i : ℕ) → count ≤ i → i < 5 → storesTo i log event d ≡ false)
     → keptFrom count log event d ≡ taken log event d
 
