@@ -31,7 +31,7 @@ extern "C" {
  * for it is refused with 21. All else is as in an EMC2305.
  *
  * So are the identity bytes. The parts' own data sheets were not at hand, so the bytes are those of Table 5.1 in the EMC2305's, and FDh, the
- * product, shows 34h in every part. Linux's driver expects 35h there of an EMC2303, 36h of an EMC2302 and 37h of an EMC2301: a driver that
+ * product, shows 34h in every part. Linux's driver expects 35h, 36h or 37h there of the smaller parts: a driver that
  * goes by FDh takes each of them for an EMC2305. */
 
 /* Numbers given back. A run walks on after 6, 7 and 21, and no function here returns them. There is no 12, and none from 16 to 20. */
