@@ -22,9 +22,8 @@ extern "C" {
 #endif
 
 /* Goes up whenever a function or a constant of this file changes, or what a function of the library answers. Version 1 had no macro, and gave
- * 5 for what is 5, 9, 10 and 11 now. Version 2 had no speeds. Version 3 had the part with five fans alone: no kind 6, no 15 and no 21.
- * Version 4 had no temperature samples: no kind 7, no 16 and no 22. */
-#define COBBLEHARD_VERSION 5
+ * 5 for what is 5, 9, 10 and 11 now. Version 2 had no speeds. Version 3 had the part with five fans alone: no kind 6, no 15 and no 21. */
+#define COBBLEHARD_VERSION 4
 
 /* Parts. Kind 1 powers on an EMC2305, which has five fans; kind 6 powers on an EMC2301, EMC2302 or EMC2303, by its number of fans, 1, 2 or 3.
  * Each power-on sets everything back, and the part is that of the last one. A fan above the part's number is absent. Its registers are
@@ -35,10 +34,7 @@ extern "C" {
  * product, shows 34h in every part. Linux's driver expects 35h, 36h or 37h there of the smaller parts: a driver that
  * goes by FDh takes each of them for an EMC2305. */
 
-/* Temperatures. Kind 7 is a temperature sample: a zone, 1, 2 or 3, and a byte, which may be any. It is read and written as any other event, and
- * is for devices that have zones. The EMC2305 and the smaller parts do not take it: they refuse it with 22, before any power-on with 6. */
-
-/* Numbers given back. A run walks on after 6, 7, 21 and 22, and no function here returns them. There is no 12, and none from 17 to 20. */
+/* Numbers given back. A run walks on after 6, 7 and 21, and no function here returns them. There is no 12, and none from 16 to 20. */
 enum cobblehard_number {
     COBBLEHARD_TAKEN = 0,             /* taken */
     COBBLEHARD_CUT_SHORT = 1,         /* the log ends inside a record */
@@ -49,17 +45,14 @@ enum cobblehard_number {
     COBBLEHARD_NO_POWER = 6,          /* event before any power-on: any but a power-on */
     COBBLEHARD_ELSEWHERE = 7,         /* transfer to another address */
     COBBLEHARD_NO_ROOM = 8,           /* buffer too short: for the reply or record */
-    COBBLEHARD_WRONG_COUNT = 9,       /* count out of range: of a tach sample, above 8191; of a wish or a temperature sample to be written,
-                                         a drive or a byte above 255 */
+    COBBLEHARD_WRONG_COUNT = 9,       /* count out of range: of a tach sample, above 8191; of a wish to be written, a drive above 255 */
     COBBLEHARD_WRONG_ADDRESS = 10,    /* address out of range: above 127 */
     COBBLEHARD_WRONG_BYTES = 11,      /* length or clocked number of a transfer out of range: a read's length byte is not 2, or its clocked
                                          number outside 1..32; of a transfer to be written also more than 32 bytes */
     COBBLEHARD_WRONG_POLES = 13,      /* poles out of range: outside 1..4 */
     COBBLEHARD_TOO_MANY_SAMPLES = 14, /* too many samples of a fan: above 65,535 in a report of speeds */
     COBBLEHARD_WRONG_FANS = 15,       /* number of fans out of range: of a part, other than 1, 2 or 3; five fans are kind 1 */
-    COBBLEHARD_WRONG_ZONE = 16,       /* no such zone: outside 1..3 */
-    COBBLEHARD_ABSENT_FAN = 21,       /* the part has no such fan: a sample or a wish for a fan above the part's number */
-    COBBLEHARD_KIND_NOT_TAKEN = 22    /* a kind that the device does not take: a temperature sample */
+    COBBLEHARD_ABSENT_FAN = 21        /* the part has no such fan: a sample or a wish for a fan above the part's number */
 };
 
 /* The kinds of events. */
@@ -70,8 +63,7 @@ enum cobblehard_kind {
     COBBLEHARD_SAMPLE = 3,
     COBBLEHARD_WISH = 4,
     COBBLEHARD_TRANSFER = 5,
-    COBBLEHARD_POWER_ON_PART = 6, /* of an EMC2301, EMC2302 or EMC2303 */
-    COBBLEHARD_TEMPERATURE = 7
+    COBBLEHARD_POWER_ON_PART = 6 /* of an EMC2301, EMC2302 or EMC2303 */
 };
 
 /* The directions of a transfer. */
@@ -106,9 +98,7 @@ static inline const char *cobblehard_words(uint8_t number)
     case COBBLEHARD_WRONG_POLES: return "poles out of range";
     case COBBLEHARD_TOO_MANY_SAMPLES: return "too many samples of a fan";
     case COBBLEHARD_WRONG_FANS: return "number of fans out of range";
-    case COBBLEHARD_WRONG_ZONE: return "no such zone";
     case COBBLEHARD_ABSENT_FAN: return "the part has no such fan";
-    case COBBLEHARD_KIND_NOT_TAKEN: return "a kind that the device does not take";
     default: return "no such number";
     }
 }
@@ -118,12 +108,12 @@ static inline const char *cobblehard_words(uint8_t number)
  * The replies of the read transfers are laid in `replies`, one after the other from its front; the bytes past them stay.
  * A read transfer takes 6 bytes of a log and has a reply of at most 32, so that log_length / 6 * 32 bytes are always enough.
  *
- * The run walks on after 6, 7, 21 and 22, which it does not return. It stops at 1 to 5, 8 to 11, 15 and 16 and keeps the replies before the
- * stop; of a reply that has no room nothing is laid. Returns the last number, 0 at the end of the log, and sets
+ * The run walks on after 6, 7 and 21, which it does not return. It stops at 1 to 5, 8 to 11 and 15 and keeps the replies before the stop; of a
+ * reply that has no room nothing is laid. Returns the last number, 0 at the end of the log, and sets
  *   *place        the place in the log of the stopping record, or the end;
- *   *records      how many records were walked, those with 6, 7, 21 or 22 included and the stopping one not;
+ *   *records      how many records were walked, those with 6, 7 or 21 included and the stopping one not;
  *   *reply_bytes  how many bytes of `replies` were laid.
- * After a stop at 1 to 5, 9 to 11, 15 or 16, eventlog_fault(log, log_length, *place) tells the byte.
+ * After a stop at 1 to 5, 9 to 11 or 15, eventlog_fault(log, log_length, *place) tells the byte.
  */
 uint8_t emc2305_run(const uint8_t *log, size_t log_length, uint8_t *replies, size_t replies_length,
                     uint64_t *place, uint64_t *records, uint64_t *reply_bytes);
@@ -147,7 +137,7 @@ uint64_t emc2305_run_reply_bytes(const uint8_t *log, size_t log_length, uint8_t 
  * edges 5, so that the speed is 15728640 / (poles x count).
  */
 
-/* Reports the speeds over a whole log, exactly: an unpowered chip is run over it, and every tach sample that it takes counts for its fan.
+/* Reports the speeds over a whole log, exactly: an unpowered chip is run over it, and every sample that it takes counts for its fan.
  *
  * Each fan has five figures, those of fan i from figures[5 * (i - 1)] on:
  *   +0  the number of its samples with a count above 0
@@ -162,11 +152,11 @@ uint64_t emc2305_run_reply_bytes(const uint8_t *log, size_t log_length, uint8_t 
  * `figures_length` is a number of entries. As many of the 25 figures are laid as `figures` has room for, from its front; entries past the
  * 25th stay as they were. So the room stops no report, and 8 is never returned: replies are not laid at all.
  *
- * Like a run it walks on after 6, 7, 21 and 22, and sets *place and *records. Returns
- *   0                        at the end of the log
- *   13                       for poles outside 1..4, before the log is read: all figures are 0, and so are *place and *records
- *   14                       at the 65,536th sample of a fan, those with count 0 included and refused ones not
- *   1 to 5, 9 to 11, 15, 16  at a record that cannot be read, a 65,536th sample too; eventlog_fault tells the byte
+ * Like a run it walks on after 6, 7 and 21, and sets *place and *records. Returns
+ *   0                    at the end of the log
+ *   13                   for poles outside 1..4, before the log is read: all figures are 0, and so are *place and *records
+ *   14                   at the 65,536th sample of a fan, those with count 0 included and refused ones not
+ *   1 to 5, 9 to 11, 15  at a record that cannot be read, a 65,536th sample too; eventlog_fault tells the byte
  * After any but 13 the figures are those of the records before *place.
  */
 uint8_t emc2305_speeds(const uint8_t *log, size_t log_length, uint64_t poles, uint64_t *figures, size_t figures_length,
@@ -190,7 +180,6 @@ uint32_t emc2305_rpm_by_high_byte(uint8_t high_byte);
  *   4 wish             fan 1..5        drive 0..255         -
  *   5 transfer         address 0..127  0 write, 1 read      the bytes sent, at most 32; of a read one byte, how many the host clocks, 1..32
  *   6 part's power-on  address 0..127  number of fans 1..3  -
- *   7 temperature      zone 1..3       byte 0..255          -
  *
  * eventlog_read sets what stands as - to 0, and eventlog_write does not look at it.
  */
@@ -200,8 +189,8 @@ uint32_t emc2305_rpm_by_high_byte(uint8_t high_byte);
  * Returns 0 and sets all six numbers: the event's kind, unit and value; *bytes_place and *bytes_length, where its bytes lie in the log;
  * *next, the place after the record. With log + *bytes_place and *bytes_length for its bytes, eventlog_write makes the same record again.
  * At the exact end of the log it returns 0 with *kind 0, *next the place, and 0 in the others.
- * Returns 1 to 5, 9 to 11, 15 or 16 for a refusal, 1 also for a place past the end, and leaves all six as they were. Of faults the first in
- * this order decides: 2; 1 for fewer than four bytes; 3; 4; 1 for a payload cut short; then the field whose byte comes first.
+ * Returns 1 to 5, 9 to 11 or 15 for a refusal, 1 also for a place past the end, and leaves all six as they were. Of faults the first in this
+ * order decides: 2; 1 for fewer than four bytes; 3; 4; 1 for a payload cut short; then the field whose byte comes first.
  */
 uint8_t eventlog_read(const uint8_t *log, size_t log_length, uint64_t place, uint8_t *kind, uint8_t *unit, uint16_t *value,
                       uint64_t *bytes_place, uint64_t *bytes_length, uint64_t *next);
@@ -217,7 +206,6 @@ uint8_t eventlog_read(const uint8_t *log, size_t log_length, uint64_t place, uin
  *   10  the address byte
  *   11  the length byte of a read where that is not 2, else the byte with the clocked number
  *   15  the byte with the number of fans, which is the second of the payload
- *   16  the zone byte
  *
  * Where there is no fault, at a record that eventlog_read takes and at the end of the log, it returns COBBLEHARD_NO_FAULT. For the place
  * UINT64_MAX, which is past the end of any log, the answer is that number too: whether there is a fault, eventlog_read tells.
@@ -227,13 +215,12 @@ uint64_t eventlog_fault(const uint8_t *log, size_t log_length, uint64_t place);
 /* Writes the record of an event at the front of `out`; a record has at most 37 bytes.
  *
  * Returns 0 and sets *written to the record's length. Otherwise `out` and *written stay as they were, and it returns the first of these:
- *   3   a kind other than 1 to 7
+ *   3   a kind other than 1 to 6
  *   11  a transfer with more than 32 bytes, or a read with another number of bytes than one
  *   10  an address above 127, or a direction above 1, which shares its byte
  *   15  a number of fans other than 1, 2 or 3, above 255 too
  *   5   a fan outside 1..5
- *   16  a zone outside 1..3
- *   9   a count above 8191, or a wish's drive or a temperature's byte above 255
+ *   9   a count above 8191, or a wish's drive above 255
  *   11  a clocked number outside 1..32
  *   8   `out` is too short
  */

@@ -3,7 +3,7 @@
 
     python3 tests/library_test.py target/staticlib/libcobblehard.a target/staticlib/libcobblehard_speeds.a
 
-The cases are those of host/expected/src/library.rs, those of kinds 6 and 7 below, and the header's words. Each program is built twice,
+The cases are those of host/expected/src/library.rs, those of kind 6 below, and the header's words. Each program is built twice,
 the second time with gcc's address and undefined behaviour sanitizers. The header is compiled by itself too, as C and, where there
 is g++, as C++.
 """
@@ -55,11 +55,11 @@ CALLS = ["run", "read", "write", "speeds", "rpm", "rpm_by_high_byte"]
 WORDS = ["taken", "the log ends inside a record", "a mark byte is wrong", "unknown kind", "length not allowed for the kind",
          "no such fan", "event before any power-on", "transfer to another address", "buffer too short", "count out of range",
          "address out of range", "length or clocked number of a transfer out of range", "no such number", "poles out of range",
-         "too many samples of a fan", "number of fans out of range", "no such zone", *["no such number"] * 4,
-         "the part has no such fan", "a kind that the device does not take", "no such number"]
+         "too many samples of a fan", "number of fans out of range", *["no such number"] * 5, "the part has no such fan",
+         "no such number"]
 WORDS_CASES = [(f"words {number}", words) for number, words in enumerate(WORDS)]
 
-# ---- the cases of kinds 6 and 7, with answers by hand ----
+# ---- the cases of kind 6, with answers by hand ----
 
 NO_FAULT = 2**64 - 1
 KEPT = int.from_bytes(b"\xA5" * 8, "big")  # what check.c lays in a number before a call
@@ -69,11 +69,7 @@ PARTS = bytes.fromhex("9C 46 03 03 05 00 08"  # a sample before power-on: 6
                       "9C 46 03 03 03 FF 1F 9C 46 04 02 04 FF"  # a sample of fan 3, a wish for fan 4: 21 twice
                       "9C 46 03 03 02 00 08 9C 46 05 02 58 4E 9C 46 05 02 59 04")  # fan 2, and its reading with what follows
 FOUR_FANS = bytes.fromhex("9C 46 06 02 2C 04")
-TEMPERATURES = bytes.fromhex("9C 46 07 02 01 37 9C 46 01 01 2C"  # before power-on: 6
-                             "9C 46 07 02 03 80 9C 46 03 03 02 00 08 9C 46 07 02 02 FF"  # 22, a sample of fan 2, 22
-                             "9C 46 05 02 58 4E 9C 46 07 02 01 00 9C 46 05 02 59 02")  # 22 between the pointer and a read
-ZONE_4 = bytes.fromhex("9C 46 07 02 04 37")
-FAN_2_FIGURES = "0 0 0 0 0 1 3840 3840 3840 0" + 3 * " 0 0 0 0 0"
+PARTS_FIGURES = "0 0 0 0 0 1 3840 3840 3840 0" + 3 * " 0 0 0 0 0"
 
 
 def written(number, record, room=6):
@@ -97,39 +93,7 @@ def part_cases():
     yield f"write 6 44 2 6 {'00' * 33}", written(0, "9c4606022c02")  # bytes are not looked at
     for log, number in ((PARTS, 0), (PARTS + FOUR_FANS, 15)):
         yield f"run 6 {log.hex()}", f"{number} 45 7 4 40000000eeee"
-        yield f"speeds 2 25 {log.hex()}", f"{number} 45 7 {FAN_2_FIGURES}"
-
-
-def zone_cases():
-    """Every zone, and every byte with some of them, read and written; then values that are no byte."""
-    for zone in range(256):
-        good = zone in (1, 2, 3)
-        for byte in range(256) if zone in (0, 1, 2, 3, 4, 255) else (0, 1, 55, 128, 255):
-            record = bytes([0x9C, 0x46, 7, 2, zone, byte]).hex()
-            yield f"read 0 {record}", f"0 7 {zone} {byte} 0 0 6 {NO_FAULT}" if good else f"16 {UNREAD} 4"
-            yield f"write 7 {zone} {byte} 6 .", written(0 if good else 16, record)
-        for value in (256, 257, 311, 512, 65535):
-            yield f"write 7 {zone} {value} 6 .", written(9 if good else 16, "")
-
-
-def temperature_cases():
-    """Zones and bytes; lengths and rooms that are wrong; a run and a report that walk on after 22 and stop at 16."""
-    yield from zone_cases()
-    for n in (0, 1, 3, 33, 34, 255):  # 4 before a payload that is short, and before the zone
-        yield f"read 0 9c4607{n:02x}", f"4 {UNREAD} 3"
-        yield f"read 0 9c4607{n:02x}{'00' * n}", f"4 {UNREAD} 3"
-    for payload in ("", "00", "01"):
-        yield f"read 0 9c460702{payload}", f"1 {UNREAD} {4 + len(payload) // 2}"
-    yield f"read 5 9c4601012c{ZONE_4.hex()}", f"16 {UNREAD} 9"
-    for room in (0, 5):
-        for zone, value, number in ((1, 0, 8), (3, 255, 8), (0, 0, 16), (4, 255, 16), (1, 256, 9), (3, 256, 9), (0, 256, 16)):
-            yield f"write 7 {zone} {value} {room} .", written(number, "", room)
-    yield f"write 7 2 128 6 {'00' * 33}", written(0, "9c4607020280")  # bytes are not looked at
-    for log, number in ((TEMPERATURES, 0), (TEMPERATURES + ZONE_4, 16), (TEMPERATURES + ZONE_4 + TEMPERATURES, 16)):
-        yield f"run 6 {log.hex()}", f"{number} 48 8 2 4000eeeeeeee"
-        yield f"run 2 {log.hex()}", f"{number} 48 8 2 4000"
-        yield f"run 1 {log.hex()}", "8 42 7 0 ee"
-        yield f"speeds 2 25 {log.hex()}", f"{number} 48 8 {FAN_2_FIGURES}"
+        yield f"speeds 2 25 {log.hex()}", f"{number} 45 7 {PARTS_FIGURES}"
 
 
 def wrong(expected, answer):
@@ -195,23 +159,6 @@ reply bytes 4: 40 00 00 00
 faulty byte 50
 fan 2: samples 1, RPM lowest 3840, highest 3840, total 3840, zero counts 0
 """
-TEMPERATURES_OUTPUT = """\
-0: temperature sample of zone 1, byte 55
-6: power-on, address 2C
-11: temperature sample of zone 3, byte 128
-17: tach sample of fan 2, count 2048
-24: temperature sample of zone 2, byte 255
-30: write to address 2C: 4E
-36: temperature sample of zone 1, byte 0
-42: read from address 2C, count 2
-48: refused with 16, no such zone, at byte 52
-number 16: no such zone
-place 48
-records walked 8
-reply bytes 2: 40 00
-faulty byte 52
-fan 2: samples 1, RPM lowest 3840, highest 3840, total 3840, zero counts 0
-"""
 SAMPLES = 65_536  # one more than a report takes
 CROWDED = bytes.fromhex("9C 46 01 01 2C" + "9C 46 03 03 02 00 00" * SAMPLES)
 CROWDED_OUTPUT = "".join(["0: power-on, address 2C\n",
@@ -222,10 +169,10 @@ CROWDED_OUTPUT = "".join(["0: power-on, address 2C\n",
 
 
 def check_example(name, program, folder):
-    """The built-in log, six files, and a file that is not there."""
+    """The built-in log, five files, and a file that is not there."""
     expected = (HOST / "example.expected").read_text()
     files = [(None, expected, 0), (EXAMPLE, expected, 0), (DAMAGED, DAMAGED_OUTPUT, 1), (b"", EMPTY_OUTPUT, 0),
-             (PARTS + FOUR_FANS, PARTS_OUTPUT, 1), (TEMPERATURES + ZONE_4, TEMPERATURES_OUTPUT, 1), (CROWDED, CROWDED_OUTPUT, 0)]
+             (PARTS + FOUR_FANS, PARTS_OUTPUT, 1), (CROWDED, CROWDED_OUTPUT, 0)]
     for log, output, status in files:
         file = folder / "log"
         file.write_bytes(log or b"")
@@ -242,7 +189,7 @@ def main():
     if len(sys.argv) != 3:
         sys.exit(__doc__)
     libraries = [pathlib.Path(name).resolve() for name in sys.argv[1:]]
-    cases, parts, temperatures = host.expected("library"), list(part_cases()), list(temperature_cases())
+    cases, parts = host.expected("library"), list(part_cases())
     counts = {word: sum(line.startswith(word + " ") for line, _ in cases) for word in CALLS}
     counted = ", ".join(f"{count} of {word}" for word, count in counts.items())
     if not all(counts.values()):
@@ -253,9 +200,8 @@ def main():
         with tempfile.TemporaryDirectory() as path:
             folder = pathlib.Path(path)
             check_example(name, build(libraries, folder, "example", flags), folder)
-            check_cases(name, build(libraries, folder, "check", flags), cases + parts + temperatures + WORDS_CASES)
-    print(f"library_test: {counted} as expected in {len(BUILDS)} builds; {len(parts)} of kind 6, {len(temperatures)} of kind 7, the words "
-          f"and the example too")
+            check_cases(name, build(libraries, folder, "check", flags), cases + parts + WORDS_CASES)
+    print(f"library_test: {counted} as expected in {len(BUILDS)} builds; {len(parts)} of kind 6, the words and the example too")
 
 
 if __name__ == "__main__":

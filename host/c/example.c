@@ -47,9 +47,6 @@ static void print_event(uint8_t kind, uint8_t unit, uint16_t value, const uint8_
     case COBBLEHARD_WISH:
         printf("loop wish for fan %u, drive %u\n", unit, value);
         break;
-    case COBBLEHARD_TEMPERATURE:
-        printf("temperature sample of zone %u, byte %u\n", unit, value);
-        break;
     default: /* COBBLEHARD_TRANSFER */
         if (value == COBBLEHARD_READS) {
             printf("read from address %02X, count %u\n", unit, bytes[0]);

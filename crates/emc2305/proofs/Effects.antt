@@ -4,7 +4,7 @@ use mathlib.Core.Bool.{Bool, true, false}
 use mathlib.Core.List.{List}
 use Prim.Native.Nat.{ℕ}
 use Rattle.eventlog.specs.declared.Event.{Event}
-use Rattle.eventlog.specs.declared.Event.TheVariants.{PowerOn, Ticks, Sample, Wish, Transfer, PowerOnPart, Temperature}
+use Rattle.eventlog.specs.declared.Event.TheVariants.{PowerOn, Ticks, Sample, Wish, Transfer, PowerOnPart}
 use Rattle.eventlog.specs.Kinds.{on_ticks, on_sample, on_wish, on_transfer, is_power_on}
 use Rattle.emc2305_parts.specs.declared.Part.{Part}
 use Rattle.emc2305_parts.specs.declared.Part.TheVariants.{Emc2305}
@@ -61,19 +61,7 @@ power_on_part address fans =
       no_transfer = λ other of. refl;
     }
 
-temperature : (zone byte : ℕ) → Idle (Temperature zone byte)
-unfolding taken
-temperature zone byte =
-    record {
-      powers_none = refl;
-      leaves = λ log c. refl;
-      no_ticks = λ other of. refl;
-      no_sample = λ other of. refl;
-      no_wish = λ other of. refl;
-      no_transfer = λ other of. refl;
-    }
-
--- P holds of every event if it holds of a power-on, of ticks, of a sample, of a wish, of a read, of a write, and of one that is idle
+-- P holds of every event if it holds of a power-on, of ticks, of a sample, of a wish, of a read, of a write, and of one that is idle, as none is today
 pub by_effect : (P : Event → Type 0) → ((event : Event) → Powering event → P event) → ((count : ℕ) → P (Ticks count))
     → ((fan count : ℕ) → P (Sample fan count)) → ((fan drive : ℕ) → P (Wish fan drive)) → ((to place n : ℕ) → P (Transfer true to place n))
     → ((to place n : ℕ) → P (Transfer false to place n)) → ((event : Event) → Idle event → P event) → (event : Event) → P event
@@ -84,4 +72,3 @@ by_effect P power-on ticks sample wish reads writes idle (Wish fan drive) = wish
 by_effect P power-on ticks sample wish reads writes idle (Transfer true to place n) = reads to place n
 by_effect P power-on ticks sample wish reads writes idle (Transfer false to place n) = writes to place n
 by_effect P power-on ticks sample wish reads writes idle (PowerOnPart address fans) = power-on (PowerOnPart address fans) (power_on_part address fans)
-by_effect P power-on ticks sample wish reads writes idle (Temperature zone byte) = idle (Temperature zone byte) (temperature zone byte)

@@ -8,7 +8,6 @@ use lib.Dec.{leb, eqb}
 use lib.ListN.{length, get_or, set}
 use lib.Seq.{get_or-set_other}
 use borrow.Author.Tests.{leb-true, eqb-true, ne_eqb, not-true}
-use Rattle.laws.specs.Bits.{bit}
 use Rattle.laws.specs.Lists.{first_moved}
 use Rattle.laws.proofs.Lists.{moved_keeps, set_keeps}
 use Rattle.laws.proofs.Repeat.{repeated_keeps}
@@ -17,7 +16,7 @@ use Rattle.eventlog.specs.declared.Event.{Event}
 use Rattle.eventlog.specs.Kinds.{is_power_on}
 use Rattle.emc2305_fan.specs.declared.Bit.{Bit}
 use Rattle.emc2305_fan.specs.declared.Fan.{Fan}
-use Rattle.emc2305_fan.specs.Registers.{byte_at, locked, undefined, shown, stores}
+use Rattle.emc2305_fan.specs.Registers.{bit, byte_at, locked, undefined, shown, stores}
 use Rattle.emc2305_fan.specs.Drive.{wished}
 use Rattle.emc2305_fan.specs.Stored.{written}
 use Rattle.emc2305_fan.specs.Tach.{sampled}

@@ -18,7 +18,7 @@ use Rattle.emc2305_parts.specs.declared.Part.{Part}
 use Rattle.emc2305_chip.specs.Watching.{fed_chip}
 use Rattle.emc2305_chip.specs.declared.Chip.{Chip}
 use Rattle.emc2305.specs.declared.Answer.{Answer}
-use Rattle.emc2305.specs.Step.{before_power, foreign, absent, elsewhere, step_number, taken, reply_to, stepped, reply_after}
+use Rattle.emc2305.specs.Step.{before_power, absent, elsewhere, step_number, taken, reply_to, stepped, reply_after}
 use Rattle.emc2305.specs.Promises.{StepNumbers, Numbered, Refused, TakenStep, after}
 use Rattle.emc2305.proofs.Turns.{reply_length_lem}
 
@@ -28,16 +28,14 @@ module _ (part : Part) (powered : Bool) (address : ℕ) (log : List ℕ) (event 
   Told number =
       cond (field_fault number) (range_number log event ≡ number)
       (cond (eqb number 6) ((range_number log event ≡ 0) × (before_power powered event ≡ true))
-      (cond (eqb number 22) ((range_number log event ≡ 0) × (before_power powered event ≡ false) × (foreign event ≡ true))
-      (cond (eqb number 21) ((range_number log event ≡ 0) × (before_power powered event ≡ false) × (foreign event ≡ false) × (absent part event ≡ true))
+      (cond (eqb number 21) ((range_number log event ≡ 0) × (before_power powered event ≡ false) × (absent part event ≡ true))
       (cond (eqb number 7)
-      ((range_number log event ≡ 0) × (before_power powered event ≡ false) × (foreign event ≡ false) × (absent part event ≡ false)
-      × (elsewhere address event ≡ true))
+      ((range_number log event ≡ 0) × (before_power powered event ≡ false) × (absent part event ≡ false) × (elsewhere address event ≡ true))
       (cond (eqb number 8)
-      ((range_number log event ≡ 0) × (before_power powered event ≡ false) × (foreign event ≡ false) × (absent part event ≡ false)
-      × (elsewhere address event ≡ false) × (room < reply_length log event))
-      ((range_number log event ≡ 0) × (before_power powered event ≡ false) × (foreign event ≡ false) × (absent part event ≡ false)
-      × (elsewhere address event ≡ false) × (reply_length log event ≤ room)))))))
+      ((range_number log event ≡ 0) × (before_power powered event ≡ false) × (absent part event ≡ false) × (elsewhere address event ≡ false)
+      × (room < reply_length log event))
+      ((range_number log event ≡ 0) × (before_power powered event ≡ false) × (absent part event ≡ false) × (elsewhere address event ≡ false)
+      × (reply_length log event ≤ room))))))
 
   told : Told (step_number part powered address log event room)
   unfolding step_number
@@ -47,14 +45,12 @@ module _ (part : Part) (powered : Bool) (address : ℕ) (log : List ℕ) (event 
       let z = eqb-true (range_number log event) 0 r in
       by_test (before_power powered event) (λ b. rw (z, b) (refl, refl))
       (λ b.
-      by_test (foreign event) (λ k. rw (z, b, k) (refl, refl, refl))
-      (λ k.
-      by_test (absent part event) (λ a. rw (z, b, k, a) (refl, refl, refl, refl))
+      by_test (absent part event) (λ a. rw (z, b, a) (refl, refl, refl))
       (λ a.
-      by_test (elsewhere address event) (λ e. rw (z, b, k, a, e) (refl, refl, refl, refl, refl))
+      by_test (elsewhere address event) (λ e. rw (z, b, a, e) (refl, refl, refl, refl))
       (λ e.
-      by_test (ltb room (reply_length log event)) (λ s. rw (z, b, k, a, e, s) (refl, refl, refl, refl, refl, ltb-true room (reply_length log event) s))
-      (λ s. rw (z, b, k, a, e, s) (refl, refl, refl, refl, refl, ltb-false room (reply_length log event) s)))))))
+      by_test (ltb room (reply_length log event)) (λ s. rw (z, b, a, e, s) (refl, refl, refl, refl, ltb-true room (reply_length log event) s))
+      (λ s. rw (z, b, a, e, s) (refl, refl, refl, refl, ltb-false room (reply_length log event) s))))))
       (λ r. rw (r, range_fault log event (eqb-false (range_number log event) 0 r)))
 
 pub step_numbers : StepNumbers
@@ -66,9 +62,8 @@ step_numbers part powered address log event room =
       (λ e. subst T e t, λ h. rw (h.0, h.1)),
       (λ e. subst T e t, λ h. rw (h.0, h.1, h.2)),
       (λ e. subst T e t, λ h. rw (h.0, h.1, h.2, h.3)),
-      (λ e. subst T e t, λ h. rw (h.0, h.1, h.2, h.3, h.4)),
-      (λ e. subst T e t, λ h. rw (h.0, h.1, h.2, h.3, h.4, lt-ltb room (reply_length log event) h.5)),
-      (λ e. subst T e t, λ h. rw (h.0, h.1, h.2, h.3, h.4, le-ltb room (reply_length log event) h.5)),
+      (λ e. subst T e t, λ h. rw (h.0, h.1, h.2, h.3, lt-ltb room (reply_length log event) h.4)),
+      (λ e. subst T e t, λ h. rw (h.0, h.1, h.2, h.3, le-ltb room (reply_length log event) h.4)),
     )
 
 module _ (c : Chip) (log : List ℕ) (event : Event) (room : ℕ) where
@@ -107,11 +102,11 @@ taken_step c log event reply h =
     let r = is_taken_lem c log event room z in
     let k = reply_length log event in
     let l : length (reply_to log event c) ≡ k = reply_length_lem k (fed_chip c) k in
-    let fits = (step_numbers c.part c.powered c.address log event room).6.0 z in (
+    let fits = (step_numbers c.part c.powered c.address log event room).5.0 z in (
       ap (λ (a : Answer). a.chip) r,
       ap (λ (a : Answer). a.laid) r ∙ sym l,
       rw (eq-eqb (number c log event room) 0 z),
-      rw (eq-eqb (number c log event room) 0 z) (length_laid (reply_to log event c) reply (omega (arith, fits.5))),
+      rw (eq-eqb (number c log event room) 0 z) (length_laid (reply_to log event c) reply (omega (arith, fits.4))),
     )
 
 -- what an event that is taken, and is for no absent fan, keeps, a step keeps
@@ -120,7 +115,7 @@ pub after_if : {B : Type 0} (v : Chip → B) (c : Chip) (log : List ℕ) (event 
 after_if v c log event room h =
     by_number c log event room
     (λ e.
-    let there = ((step_numbers c.part c.powered c.address log event room).6.0 e).3 in
+    let there = ((step_numbers c.part c.powered c.address log event room).5.0 e).2 in
     ap (λ (a : Answer). v a.chip) (is_taken_lem c log event room e) ∙ h there)
     (λ e. ap (λ (a : Answer). v a.chip) (is_refused c log event room e))
 

@@ -14,7 +14,7 @@ use Rattle.eventlog.specs.Kinds.{reply_length}
 use Rattle.eventlog.specs.Range.{fan_in_range, range_number}
 use Rattle.eventlog.proofs.Ranges.{fan_right_lem, place_within, one_byte}
 use Rattle.emc2305_parts.specs.declared.Part.{Part}
-use Rattle.emc2305.specs.Step.{before_power, foreign, absent, elsewhere, step_number}
+use Rattle.emc2305.specs.Step.{before_power, absent, elsewhere, step_number}
 
 module _ (log : List ℕ) (event : Event) (good : range_number log event ≡ 0) where
   in_range_as : (other : Event) → event ≡ other → range_number log other ≡ 0
@@ -50,25 +50,20 @@ module _ (part : Part) (powered : Bool) (address : ℕ) (log : List ℕ) (event 
     gives_6 f = rw (e, f)
 
     module _ (f : before_power powered event ≡ false) where
-      pub gives_22 : foreign event ≡ true → 22 ≡ step_number part powered address log event room
+      pub gives_21 : absent part event ≡ true → 21 ≡ step_number part powered address log event room
       unfolding step_number
-      gives_22 k = rw (e, f, k)
+      gives_21 a = rw (e, f, a)
 
-      module _ (k : foreign event ≡ false) where
-        pub gives_21 : absent part event ≡ true → 21 ≡ step_number part powered address log event room
+      module _ (a : absent part event ≡ false) where
+        pub gives_7 : elsewhere address event ≡ true → 7 ≡ step_number part powered address log event room
         unfolding step_number
-        gives_21 a = rw (e, f, k, a)
+        gives_7 g = rw (e, f, a, g)
 
-        module _ (a : absent part event ≡ false) where
-          pub gives_7 : elsewhere address event ≡ true → 7 ≡ step_number part powered address log event room
+        module _ (g : elsewhere address event ≡ false) where
+          pub gives_8 : room < reply_length log event → 8 ≡ step_number part powered address log event room
           unfolding step_number
-          gives_7 g = rw (e, f, k, a, g)
+          gives_8 h = rw (e, f, a, g, lt-ltb room (reply_length log event) h)
 
-          module _ (g : elsewhere address event ≡ false) where
-            pub gives_8 : room < reply_length log event → 8 ≡ step_number part powered address log event room
-            unfolding step_number
-            gives_8 h = rw (e, f, k, a, g, lt-ltb room (reply_length log event) h)
-
-            pub gives_0 : reply_length log event ≤ room → 0 ≡ step_number part powered address log event room
-            unfolding step_number
-            gives_0 h = rw (e, f, k, a, g, le-ltb room (reply_length log event) h)
+          pub gives_0 : reply_length log event ≤ room → 0 ≡ step_number part powered address log event room
+          unfolding step_number
+          gives_0 h = rw (e, f, a, g, le-ltb room (reply_length log event) h)

@@ -1,13 +1,13 @@
 -- What is promised of a step. docs/CLAIMS.md names the file of each proof.
-use Rattle.std.specs.Prelude.{◌≡◌, ◌↔◌, Bool, true, false, cond, List, [], ◌∷◌, ℕ, ◌+◌, ◌-◌, ◌≤◌, ◌<◌, length, get_or}
+use Rattle.std.specs.Prelude.{◌≡◌, ◌↔◌, Bool, true, false, List, [], ◌∷◌, ℕ, ◌+◌, ◌-◌, ◌≤◌, ◌<◌, length, get_or}
 use Rattle.laws.specs.Repeat.{repeated}
 use Rattle.laws.specs.Buffer.{bytes_at, laid_over}
 use Rattle.eventlog.specs.declared.Event.{Event}
-use Rattle.eventlog.specs.declared.Event.TheVariants.{PowerOn, Ticks, Sample, Wish, Transfer, PowerOnPart, Temperature}
+use Rattle.eventlog.specs.declared.Event.TheVariants.{PowerOn, Ticks, Sample, Wish, Transfer, PowerOnPart}
 use Rattle.eventlog.specs.Kinds.{is_power_on, reply_length}
 use Rattle.eventlog.specs.Layout.{said}
 use Rattle.eventlog.specs.Numbers.{field_fault}
-use Rattle.eventlog.specs.Range.{zone_in_range, range_number}
+use Rattle.eventlog.specs.Range.{range_number}
 use Rattle.emc2305_parts.specs.declared.Part.{Part}
 use Rattle.emc2305_parts.specs.declared.Part.TheVariants.{Emc2305}
 use Rattle.emc2305_parts.specs.Parts.{part_with}
@@ -20,7 +20,7 @@ use Rattle.emc2305_chip.specs.Fans.{fan_at}
 use Rattle.emc2305_chip.specs.Watching.{fed_chip}
 use Rattle.emc2305_chip.specs.Registers.{shown_at, is_locked, guarded, register_at}
 use Rattle.emc2305.specs.Transfers.{pointer_after, sent, byte_read, reply_of, read_out}
-use Rattle.emc2305.specs.Step.{before_power, foreign, absent, elsewhere, step_number, taken, reply_to, stepped, reply_after}
+use Rattle.emc2305.specs.Step.{before_power, absent, elsewhere, step_number, taken, reply_to, stepped, reply_after}
 use Rattle.emc2305.specs.Traffic.{stores_to}
 
 -- the chip after a step, with a reply buffer of so many bytes
@@ -33,19 +33,16 @@ StepNumbers =
     (part : Part) (powered : Bool) (address : ℕ) (log : List ℕ) (event : Event) (room : ℕ)
     → ((number : ℕ) → field_fault number ≡ true → step_number part powered address log event room ≡ number ↔ range_number log event ≡ number)
     × (step_number part powered address log event room ≡ 6 ↔ (range_number log event ≡ 0) × (before_power powered event ≡ true))
-    × (step_number part powered address log event room ≡ 22
-    ↔ (range_number log event ≡ 0) × (before_power powered event ≡ false) × (foreign event ≡ true))
     × (step_number part powered address log event room ≡ 21
-    ↔ (range_number log event ≡ 0) × (before_power powered event ≡ false) × (foreign event ≡ false) × (absent part event ≡ true))
+    ↔ (range_number log event ≡ 0) × (before_power powered event ≡ false) × (absent part event ≡ true))
     × (step_number part powered address log event room ≡ 7
-    ↔ (range_number log event ≡ 0) × (before_power powered event ≡ false) × (foreign event ≡ false) × (absent part event ≡ false)
-    × (elsewhere address event ≡ true))
+    ↔ (range_number log event ≡ 0) × (before_power powered event ≡ false) × (absent part event ≡ false) × (elsewhere address event ≡ true))
     × (step_number part powered address log event room ≡ 8
-    ↔ (range_number log event ≡ 0) × (before_power powered event ≡ false) × (foreign event ≡ false) × (absent part event ≡ false)
-    × (elsewhere address event ≡ false) × (room < reply_length log event))
+    ↔ (range_number log event ≡ 0) × (before_power powered event ≡ false) × (absent part event ≡ false) × (elsewhere address event ≡ false)
+    × (room < reply_length log event))
     × (step_number part powered address log event room ≡ 0
-    ↔ (range_number log event ≡ 0) × (before_power powered event ≡ false) × (foreign event ≡ false) × (absent part event ≡ false)
-    × (elsewhere address event ≡ false) × (reply_length log event ≤ room))
+    ↔ (range_number log event ≡ 0) × (before_power powered event ≡ false) × (absent part event ≡ false) × (elsewhere address event ≡ false)
+    × (reply_length log event ≤ room))
 
 -- a step answers that number, of its chip's part, flag and address
 abbrev pub Numbered : Type 0
@@ -58,15 +55,6 @@ abbrev pub Refused : Type 0
 Refused =
     (c : Chip) (log : List ℕ) (event : Event) (reply : List ℕ) → ((stepped c log event (length reply)).number ≡ 0 → ⊥)
     → (after log event (length reply) c ≡ c) × ((stepped c log event (length reply)).laid ≡ 0) × (reply_after c log event reply ≡ reply)
-
--- a temperature sample is never taken: 16 for its zone, 6 before any power-on, else 22; and it changes nothing
-abbrev pub Temperatures : Type 0
-Temperatures =
-    (c : Chip) (log : List ℕ) (zone byte : ℕ) (reply : List ℕ)
-    → ((stepped c log (Temperature zone byte) (length reply)).number ≡ cond (zone_in_range zone) (cond c.powered 22 6) 16)
-    × (after log (Temperature zone byte) (length reply) c ≡ c)
-    × ((stepped c log (Temperature zone byte) (length reply)).laid ≡ 0)
-    × (reply_after c log (Temperature zone byte) reply ≡ reply)
 
 -- a step that is taken: the chip, and the reply laid at the front of the buffer, which keeps its length
 abbrev pub TakenStep : Type 0

@@ -3,8 +3,8 @@ use Rattle.std.specs.Prelude.{Bool, true, false, cond, not, ◌&&◌, List, ℕ,
 use Rattle.laws.specs.Buffer.{bytes_at, laid_over}
 use Rattle.laws.specs.Repeat.{repeated}
 use Rattle.eventlog.specs.declared.Event.{Event}
-use Rattle.eventlog.specs.declared.Event.TheVariants.{PowerOn, Ticks, Sample, Wish, Transfer, PowerOnPart, Temperature}
-use Rattle.eventlog.specs.Kinds.{on_sample, on_wish, on_transfer, on_temperature, is_power_on, reply_length}
+use Rattle.eventlog.specs.declared.Event.TheVariants.{PowerOn, Ticks, Sample, Wish, Transfer, PowerOnPart}
+use Rattle.eventlog.specs.Kinds.{on_sample, on_wish, on_transfer, is_power_on, reply_length}
 use Rattle.eventlog.specs.Range.{range_number}
 use Rattle.emc2305_parts.specs.declared.Part.{Part}
 use Rattle.emc2305_parts.specs.declared.Part.TheVariants.{Emc2305}
@@ -23,10 +23,6 @@ use Rattle.emc2305.specs.Transfers.{sent, reply_of, read_out}
 abbrev pub before_power : Bool → Event → Bool
 before_power powered event = not (is_power_on event) && not powered
 
--- a kind that the device does not take: a temperature sample
-abbrev pub foreign : Event → Bool
-foreign = on_temperature false (λ zone byte. true)
-
 -- a sample or a wish for a fan past the first so many
 abbrev pub for_past : ℕ → Event → Bool
 for_past fans event = on_sample (on_wish false (λ fan drive. ltb fans fan) event) (λ fan count. ltb fans fan) event
@@ -39,18 +35,17 @@ absent part event = for_past (fans_of part) event
 abbrev pub elsewhere : ℕ → Event → Bool
 elsewhere address = on_transfer false (λ reads to place n. not (eqb to address))
 
--- a step's number: that of a field out of range, then 6, 22, 21, 7, 8
+-- a step's number: that of a field out of range, then 6, 21, 7, 8
 unfoldable pub step_number : Part → Bool → ℕ → List ℕ → Event → ℕ → ℕ
 step_number part powered address log event room =
     cond (not (eqb (range_number log event) 0)) (range_number log event)
     (cond (before_power powered event) 6
-    (cond (foreign event) 22
     (cond (absent part event) 21
     (cond (elsewhere address event) 7
     (cond (ltb room (reply_length log event)) 8
-    0)))))
+    0))))
 
--- the chip after an event that is taken; a power-on of kind 1 means five fans, one of kind 6 has their number; a temperature sample never is taken
+-- the chip after an event that is taken; a power-on of kind 1 means five fans, one of kind 6 has their number
 unfoldable pub taken : List ℕ → Event → Chip → Chip
 taken log (PowerOn address) c = at_defaults Emc2305 true address
 taken log (Ticks count) c = repeated count chip_ticked c
@@ -59,7 +54,6 @@ taken log (Wish fan drive) c = on_fan (fan - 1) (wished drive) c
 taken log (Transfer reads to place n) c =
     cond reads (read_out (get_or log place 0) (fed_chip c)) (sent (bytes_at log place n) (fed_chip c))
 taken log (PowerOnPart address fans) c = at_defaults (part_with fans) true address
-taken log (Temperature zone byte) c = c
 
 -- the reply bytes of an event that is taken
 unfoldable pub reply_to : List ℕ → Event → Chip → List ℕ

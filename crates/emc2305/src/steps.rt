@@ -3,12 +3,12 @@ ghost use Rattle.std.specs.Prelude.{◌≡◌, ◌≤◌, length};
 ghost use Rattle.laws.specs.Buffer.{laid_over};
 ghost use Rattle.eventlog.specs.Kinds.{reply_length};
 ghost use Rattle.eventlog.specs.Range.{range_number};
-ghost use Rattle.emc2305.specs.Step.{before_power, foreign, absent, elsewhere, step_number, taken, reply_to, stepped, reply_after};
+ghost use Rattle.emc2305.specs.Step.{before_power, absent, elsewhere, step_number, taken, reply_to, stepped, reply_after};
 
 use crate::{Answer, transfers};
 use emc2305_chip::Chip;
 use emc2305_parts::Part;
-use eventlog::{ABSENT_FAN, ELSEWHERE, Event, KIND_NOT_TAKEN, NO_POWER, NO_ROOM, TAKEN};
+use eventlog::{ABSENT_FAN, ELSEWHERE, Event, NO_POWER, NO_ROOM, TAKEN};
 
 // One event. The reply of a read is laid at the front of the buffer. A refusal leaves chip and buffer as they were.
 pub fn step(chip: Chip, log: &[u8], event: Event, reply: &mut [u8]) -> Answer
@@ -32,7 +32,7 @@ pub fn step(chip: Chip, log: &[u8], event: Event, reply: &mut [u8]) -> Answer
     }
 }
 
-// The number: that of a field out of range, then 6, 22, 21, 7, 8.
+// The number: that of a field out of range, then 6, 21, 7, 8.
 fn step_number(part: Part, powered: bool, address: u8, log: &[u8], event: Event, room: usize) -> u8
     ensures { result ≡ step_number part powered address log.now event room }
 {
@@ -42,9 +42,6 @@ fn step_number(part: Part, powered: bool, address: u8, log: &[u8], event: Event,
     }
     if before_power(powered, event) {
         return NO_POWER;
-    }
-    if foreign(event) {
-        return KIND_NOT_TAKEN;
     }
     if absent(part, event) {
         return ABSENT_FAN;
@@ -69,16 +66,6 @@ fn before_power(powered: bool, event: Event) -> bool
             fans: _,
         } => false,
         _ => !powered,
-    }
-}
-
-// 22: a kind that the device does not take.
-fn foreign(event: Event) -> bool
-    ensures { result ≡ foreign event }
-{
-    match event {
-        Event::Temperature { zone: _, byte: _ } => true,
-        _ => false,
     }
 }
 
@@ -147,7 +134,5 @@ fn taken(chip: Chip, log: &[u8], event: Event, n: usize, reply: &mut [u8]) -> Ch
             }
         }
         Event::PowerOnPart { address, fans } => Chip::power_on(Part::with_fans(fans), address),
-        // Refused before with 22.
-        Event::Temperature { zone: _, byte: _ } => chip,
     }
 }

@@ -7,7 +7,6 @@ use native.Mathlib.Omega.{arith}
 use native.Mathlib.Nat.{add-zero, div-eq_of_lt}
 use lib.Dec.{eqb}
 use borrow.Author.Tests.{eqb-true, eqb-false}
-use Rattle.laws.specs.Bits.{bit}
 use Rattle.laws.specs.Lists.{first_moved}
 use Rattle.laws.proofs.Lists.{moved_all}
 use Rattle.laws.proofs.Divide.{bit_below, bit_own}
@@ -16,6 +15,7 @@ use Rattle.emc2305_fan.specs.declared.Bit.{Bit}
 use Rattle.emc2305_fan.specs.declared.Bit.TheVariants.{Stall, Spin}
 use Rattle.emc2305_fan.specs.declared.Fan.{Fan}
 use Rattle.emc2305_fan.specs.Spin.{too_slow}
+use Rattle.emc2305_fan.specs.Registers.{bit}
 use Rattle.emc2305_fan.specs.Status.{standing, other, stuck, bit_read}
 use Rattle.emc2305_fan.proofs.Statuses.{status_read}
 use Rattle.emc2305_chip.specs.State.{fan_count}

@@ -7,8 +7,8 @@ use native.Mathlib.Omega.{arith}
 use lib.Dec.{eqb}
 use lib.ListN.{length, get_or, set, get_or-eq_default}
 use lib.Seq.{set_out}
-use Rattle.laws.specs.Bits.{bit}
 use Rattle.emc2305_fan.specs.declared.Fan.{Fan}
+use Rattle.emc2305_fan.specs.Registers.{bit}
 use Rattle.emc2305_watchdog.specs.Watch.{fires, watch_ticked}
 use Rattle.emc2305_chip.specs.declared.Chip.{Chip}
 use Rattle.emc2305_chip.specs.State.{fan_count, with_fans, with_watch}

@@ -1,11 +1,10 @@
 -- The fans side by side: what happens to them alike, and their status bits.
 use Rattle.std.specs.Prelude.{Bool, false, cond, ◌&&◌, ◌||◌, List, [], ℕ, zero, suc, ◌+◌, ◌^◌, get_or}
-use Rattle.laws.specs.Bits.{bit}
 use Rattle.laws.specs.Repeat.{repeated}
 use Rattle.emc2305_parts.specs.Parts.{reset_of}
 use Rattle.emc2305_fan.specs.declared.Bit.{Bit}
 use Rattle.emc2305_fan.specs.declared.Fan.{Fan}
-use Rattle.emc2305_fan.specs.Registers.{no_spin, power_on}
+use Rattle.emc2305_fan.specs.Registers.{bit, no_spin, power_on}
 use Rattle.emc2305_fan.specs.Tick.{ticked, busy}
 use Rattle.emc2305_fan.specs.Tach.{fired}
 use Rattle.emc2305_fan.specs.Status.{standing, bit_read}

@@ -1,10 +1,10 @@
 -- What is promised of the chip's registers and ticks. docs/CLAIMS.md names the file of each proof.
 use Rattle.std.specs.Prelude.{◌≡◌, ◌↔◌, true, false, cond, not, ◌&&◌, ◌||◌, List, [], ◌∷◌, ◌++◌, ℕ, zero, suc, ◌+◌, ◌-◌, ◌*◌, ◌/◌, ◌%◌, ◌^◌, ◌≤◌, ◌<◌, eqb, length}
-use Rattle.laws.specs.Bits.{bit}
 use Rattle.laws.specs.Repeat.{repeated}
 use Rattle.emc2305_parts.specs.declared.Part.{Part}
 use Rattle.emc2305_parts.specs.Parts.{fans_of}
 use Rattle.emc2305_fan.specs.declared.Fan.{Fan}
+use Rattle.emc2305_fan.specs.Registers.{bit}
 use Rattle.emc2305_fan.specs.Tick.{ticked}
 use Rattle.emc2305_fan.specs.Tach.{fired}
 use Rattle.emc2305_fan.specs.Status.{stuck}

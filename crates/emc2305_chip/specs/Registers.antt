@@ -1,13 +1,12 @@
 -- The chip's registers: power-on, status, the alert line, what a read shows and clears, the lock, what a write stores.
 use Rattle.std.specs.Prelude.{Bool, true, false, cond, not, ◌&&◌, ◌||◌, [], ◌∷◌, ℕ, ◌+◌, eqb, get_or, set}
-use Rattle.laws.specs.Bits.{bit}
 use Rattle.laws.specs.Lists.{first_moved}
 use Rattle.emc2305_parts.specs.declared.Part.{Part}
 use Rattle.emc2305_parts.specs.declared.Part.TheVariants.{Emc2305}
 use Rattle.emc2305_parts.specs.Parts.{reset_of, identity_of}
 use Rattle.emc2305_fan.specs.declared.Bit.TheVariants.{Stall, Spin}
 use Rattle.emc2305_fan.specs.declared.Fan.{Fan}
-use Rattle.emc2305_fan.specs.Registers.{power_on, shown, locked}
+use Rattle.emc2305_fan.specs.Registers.{bit, power_on, shown, locked}
 use Rattle.emc2305_fan.specs.Stored.{written, takes}
 use Rattle.emc2305_fan.specs.Status.{bit_read}
 use Rattle.emc2305_watchdog.specs.declared.Watch.TheVariants.{PowerUp}

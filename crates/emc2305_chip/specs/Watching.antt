@@ -1,6 +1,6 @@
 -- What touches the watch but ticks: a stored write to a fan or to 20h, and a transfer.
 use Rattle.std.specs.Prelude.{Bool, cond, ℕ}
-use Rattle.laws.specs.Bits.{bit}
+use Rattle.emc2305_fan.specs.Registers.{bit}
 use Rattle.emc2305_fan.specs.Stored.{programs}
 use Rattle.emc2305_watchdog.specs.Watch.{fed, programmed, configured}
 use Rattle.emc2305_chip.specs.declared.Chip.{Chip}

@@ -2,8 +2,8 @@
 use mathlib.Core.Path.{◌≡◌, refl, sym, ◌∙◌}
 use mathlib.Core.Bool.{Bool, true, not, ◌&&◌, ◌||◌, true≢false, or-false}
 use mathlib.Core.List.{List}
-use Prim.Native.Nat.{ℕ}
-use lib.Dec.{eqb}
+use Prim.Native.Nat.{ℕ, ◌+◌}
+use lib.Dec.{leb, eqb}
 use Rattle.laws.proofs.Tests.{by_test, and_left, and_right, or_true}
 use Rattle.emc2305_fan.specs.declared.Bit.{Bit}
 use Rattle.emc2305_fan.specs.declared.Bit.TheVariants.{Stall, Spin}
@@ -11,9 +11,9 @@ use Rattle.emc2305_fan.specs.declared.Fan.{Fan}
 use Rattle.emc2305_fan.specs.declared.SpinUp.{SpinUp}
 use Rattle.emc2305_fan.specs.State.{with_drive, with_wish, with_clock, with_spin, with_stalled, with_failed}
 use Rattle.emc2305_fan.specs.Registers.{closed_loop, stores}
-use Rattle.emc2305_fan.specs.Drive.{goal, under_ramp, wished}
+use Rattle.emc2305_fan.specs.Drive.{goal, under_ramp, period, wished}
 use Rattle.emc2305_fan.specs.Spin.{started, ended, too_slow, spin_failed, spin_over, last_tick, spin_tick}
-use Rattle.emc2305_fan.specs.Tick.{clock_ticked, ticked}
+use Rattle.emc2305_fan.specs.Tick.{updated, clock_ticked, ticked}
 use Rattle.emc2305_fan.specs.Stored.{put, wish_taken, clears_clock, clock_set, spin_starts, settled, written}
 use Rattle.emc2305_fan.specs.Tach.{with_reading, judged, stall, sampled, fired}
 use Rattle.emc2305_fan.specs.Status.{standing}
@@ -49,8 +49,8 @@ module _ (P : Fan → Type 0) (aside : Aside P) where
       by_test (last_tick f.spin) (λ t. rw t (of_over f (fails t) p)) (λ t. rw t (aside.drives _ _ (aside.spins _ f p)))
 
   of_clock_ticked : (f : Fan) → P f → P (clock_ticked f)
-  unfolding clock_ticked
-  of_clock_ticked f p = aside.drives _ _ (aside.clocks _ f p)
+  unfolding clock_ticked updated
+  of_clock_ticked f p = by_test (leb (period f) (f.clock + 1)) (λ t. rw t (aside.drives _ _ (aside.clocks 0 f p))) (λ t. rw t (aside.clocks _ f p))
 
   of_tick : (f : Fan)
       → (f.spin.running ≡ true → last_tick f.spin ≡ true → too_slow f ≡ true → P f → P (with_failed true f)) → P f → P (ticked f)

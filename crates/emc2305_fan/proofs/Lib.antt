@@ -2,6 +2,7 @@ pub mod Offsets
 pub mod Steps
 pub mod Taken
 pub mod TableRules
+pub mod Ramps
 pub mod Ticks
 pub mod Spins
 pub mod Kept

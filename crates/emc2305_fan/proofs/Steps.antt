@@ -3,28 +3,25 @@ use mathlib.Core.Path.{◌≡◌, ap, ◌∙◌}
 use mathlib.Core.Bool.{Bool, true, false, cond, not}
 use Prim.Native.Nat.{ℕ, ◌+◌, ◌≤◌, ◌<◌}
 use borrow.Author.Tests.{le-leb, lt-leb, eq-eqb, ne_eqb}
-use Rattle.laws.specs.Bits.{bit}
 use Rattle.laws.proofs.Tests.{by_test}
-use Rattle.ramps.specs.declared.Ramp.{Ramp}
-use Rattle.ramps.proofs.Ticks as ramp
 use Rattle.emc2305_fan.specs.declared.Fan.{Fan}
 use Rattle.emc2305_fan.specs.State.{with_drive, with_clock}
-use Rattle.emc2305_fan.specs.Registers.{configuration2, closed_loop, stores}
-use Rattle.emc2305_fan.specs.Drive.{driver_off, goal, under_ramp, step, period}
+use Rattle.emc2305_fan.specs.Registers.{bit, configuration2, closed_loop, stores}
+use Rattle.emc2305_fan.specs.Drive.{driver_off, goal, under_ramp, period}
 use Rattle.emc2305_fan.specs.Spin.{in_spin, spin_on, started, ended, too_slow, spin_over, spin_tick}
-use Rattle.emc2305_fan.specs.Tick.{ramp_of, with_ramp, updated, clock_ticked, ticked}
+use Rattle.emc2305_fan.specs.Tick.{updated, clock_ticked, ticked}
 use Rattle.emc2305_fan.specs.Stored.{put, wish_taken, clock_set, spin_held, spin_starts, drive_set, settled, written}
 use Rattle.emc2305_fan.specs.Tach.{judged, stall, judged_stall}
 
 -- a counted tick below the period waits
 pub waits : (f : Fan) → f.clock + 1 < period f → clock_ticked f ≡ with_clock (f.clock + 1) f
 unfolding clock_ticked
-waits f h = ap (λ (r : Ramp). with_ramp r f) (ramp.waits (goal f) (step f) (period f) (ramp_of f) h)
+waits f h = rw (lt-leb (period f) (f.clock + 1) h)
 
 -- at or past the period it acts
 pub acts : (f : Fan) → period f ≤ f.clock + 1 → clock_ticked f ≡ updated f
-unfolding clock_ticked updated
-acts f h = ap (λ (r : Ramp). with_ramp r f) (ramp.past_period (goal f) (step f) (period f) (ramp_of f) h)
+unfolding clock_ticked
+acts f h = rw (le-leb (period f) (f.clock + 1) h)
 
 -- a spin-up goes on before its last tick
 pub spins_on : (f : Fan) → f.spin.ticks + 1 < f.spin.length → spin_tick f ≡ in_spin (spin_on 1 f.spin) f

@@ -1,10 +1,9 @@
 -- Drive: goal, wish, ramp control, step, period.
 use Rattle.std.specs.Prelude.{ℕ, ◌%◌, max, Bool, cond, not, ◌&&◌, eqb, get_or}
-use Rattle.laws.specs.Bits.{bit}
 use Rattle.emc2305_fan.specs.declared.Fan.{Fan}
 use Rattle.emc2305_fan.specs.Tables.{periods}
 use Rattle.emc2305_fan.specs.State.{with_wish}
-use Rattle.emc2305_fan.specs.Registers.{setting, configuration1, configuration2, max_step, minimum_drive, target_high, closed_loop}
+use Rattle.emc2305_fan.specs.Registers.{bit, setting, configuration1, configuration2, max_step, minimum_drive, target_high, closed_loop}
 
 -- "driver off": closed loop with target high FFh
 abbrev pub driver_off : Fan → Bool

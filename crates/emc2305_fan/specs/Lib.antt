@@ -1,6 +1,7 @@
 pub mod Tables
 pub mod State
 pub mod Registers
+pub mod Ramp
 pub mod Drive
 pub mod Spin
 pub mod Tick

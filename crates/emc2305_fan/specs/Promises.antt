@@ -1,14 +1,13 @@
 -- What is promised of a fan; the proofs are in proofs/.
-use Rattle.std.specs.Prelude.{ℕ, ◌+◌, ◌*◌, ◌/◌, ◌%◌, ◌≤◌, ◌<◌, ◌≡◌, Bool, true, false, cond, ◌&&◌, ◌||◌, List, [], ◌∷◌, get_or, set}
-use Rattle.laws.specs.Bits.{bit}
+use Rattle.std.specs.Prelude.{ℕ, ◌+◌, ◌-◌, ◌*◌, ◌/◌, ◌%◌, min, ◌≤◌, ◌<◌, ◌≡◌, ◌↔◌, Bool, true, false, cond, ◌&&◌, ◌||◌, List, [], ◌∷◌, get_or, set}
 use Rattle.laws.specs.Repeat.{repeated}
-use Rattle.ramps.specs.Ramp.{moved}
 use Rattle.emc2305_fan.specs.declared.Bit.{Bit}
 use Rattle.emc2305_fan.specs.declared.Fan.{Fan}
 use Rattle.emc2305_fan.specs.declared.SpinUp.{SpinUp}
 use Rattle.emc2305_fan.specs.Tables.{periods, lengths, levels}
 use Rattle.emc2305_fan.specs.State.{with_drive, with_clock, with_failed}
-use Rattle.emc2305_fan.specs.Registers.{setting, configuration1, configuration2, spin_up, closed_loop, stores}
+use Rattle.emc2305_fan.specs.Registers.{bit, setting, configuration1, configuration2, spin_up, closed_loop, stores}
+use Rattle.emc2305_fan.specs.Ramp.{distance, moved}
 use Rattle.emc2305_fan.specs.Drive.{driver_off, goal, under_ramp, step, period, wished}
 use Rattle.emc2305_fan.specs.Spin.{spin_length, spin_level, spin_on, in_spin, started, ended, too_slow, last_tick}
 use Rattle.emc2305_fan.specs.Tick.{ticked}
@@ -35,6 +34,31 @@ PeriodRule = (i : ℕ) → i < 8 → 25 * get_or periods i 0 ≡ 2 * get_or upda
 -- the lengths are the spin-up times in ticks
 abbrev pub LengthRule : Type 0
 LengthRule = (i : ℕ) → i < 4 → 25 * get_or lengths i 0 ≡ 2 * get_or spin_times i 0
+
+-- one ramp update moves by exactly the smaller of distance and step, never passes the goal, and step 0 and d = g stay
+abbrev pub OneUpdate : Type 0
+OneUpdate =
+    (d g s : ℕ)
+    → (distance d (moved d g s) ≡ min (distance d g) s)
+    × (distance d (moved d g s) + distance (moved d g s) g ≡ distance d g)
+    × (moved d g 0 ≡ d)
+    × (moved g g s ≡ g)
+
+-- d after n ramp updates
+abbrev pub after_updates : ℕ → ℕ → ℕ → ℕ → ℕ
+after_updates n d g s = repeated n (λ (x : ℕ). moved x g s) d
+
+-- n updates move by the smaller of the distance and n times the step
+abbrev pub Updates : Type 0
+Updates = (n d g s : ℕ) → after_updates n d g s ≡ moved d g (n * s)
+
+-- the distance over the step, rounded up
+abbrev pub updates_to : ℕ → ℕ → ℕ → ℕ
+updates_to d g s = (distance d g + (s - 1)) / s
+
+-- with a step of at least 1 the drive arrives after exactly that many updates, and stays
+abbrev pub Arrives : Type 0
+Arrives = (n d g s : ℕ) → 1 ≤ s → after_updates n d g s ≡ g ↔ updates_to d g s ≤ n
 
 -- n ticks under ramp control, not in spin-up, the clock below the period: what the clock counts, where the drive is, and nothing else moves
 abbrev pub RampTicks : Type 0

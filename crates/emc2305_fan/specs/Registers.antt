@@ -1,8 +1,11 @@
 -- A fan's registers, by offset.
-use Rattle.std.specs.Prelude.{List, ℕ, Bool, false, cond, not, ◌&&◌, ◌||◌, leb, eqb, get_or}
-use Rattle.laws.specs.Bits.{bit}
+use Rattle.std.specs.Prelude.{List, ℕ, ◌/◌, ◌%◌, ◌^◌, Bool, false, cond, not, ◌&&◌, ◌||◌, leb, eqb, get_or}
 use Rattle.emc2305_fan.specs.declared.Fan.{Fan}
 use Rattle.emc2305_fan.specs.declared.SpinUp.{SpinUp}
+
+-- bit k of a byte is 1
+abbrev pub bit : ℕ → ℕ → Bool
+bit k byte = eqb (byte / 2 ^ k % 2) 1
 
 -- the byte that stands at an offset
 abbrev pub byte_at : ℕ → Fan → ℕ

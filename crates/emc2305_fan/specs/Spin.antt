@@ -1,11 +1,10 @@
 -- Spin-up: its start, its ticks, its end.
 use Rattle.std.specs.Prelude.{ℕ, ◌+◌, ◌/◌, ◌%◌, Bool, true, cond, not, ◌&&◌, leb, ltb, get_or}
-use Rattle.laws.specs.Bits.{bit}
 use Rattle.emc2305_fan.specs.declared.Fan.{Fan}
 use Rattle.emc2305_fan.specs.declared.SpinUp.{SpinUp}
 use Rattle.emc2305_fan.specs.Tables.{lengths, levels}
 use Rattle.emc2305_fan.specs.State.{with_drive, with_clock, with_spin, with_failed}
-use Rattle.emc2305_fan.specs.Registers.{spin_up, valid_count, reading_high, closed_loop, no_spin}
+use Rattle.emc2305_fan.specs.Registers.{bit, spin_up, valid_count, reading_high, closed_loop, no_spin}
 use Rattle.emc2305_fan.specs.Drive.{goal, under_ramp}
 
 -- length by Spin Up bits 0..1

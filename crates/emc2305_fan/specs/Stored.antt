@@ -1,9 +1,8 @@
 -- A write to one of the fan's registers.
 use Rattle.std.specs.Prelude.{ℕ, ◌+◌, Bool, false, cond, not, ◌&&◌, ◌||◌, List, [], ◌∷◌, ltb, eqb, set}
-use Rattle.laws.specs.Bits.{bit}
 use Rattle.emc2305_fan.specs.declared.Fan.{Fan}
 use Rattle.emc2305_fan.specs.State.{with_registers, with_drive, with_wish, with_clock}
-use Rattle.emc2305_fan.specs.Registers.{closed_loop, locked, stores}
+use Rattle.emc2305_fan.specs.Registers.{bit, closed_loop, locked, stores}
 use Rattle.emc2305_fan.specs.Drive.{driver_off, goal, under_ramp}
 use Rattle.emc2305_fan.specs.Spin.{started, ended}
 

@@ -1,14 +1,14 @@
 // Drive: goal, wish, ramp control, and the tick.
-ghost use Rattle.std.specs.Prelude.{◌≡◌, true, false, max};
+ghost use Rattle.std.specs.Prelude.{◌≡◌, true, false, max, ◌<◌};
 ghost use Rattle.laws.specs.Repeat.{repeated};
+ghost use Rattle.emc2305_fan.specs.Ramp.{moved};
 ghost use Rattle.emc2305_fan.specs.Drive.{driver_off, goal, under_ramp, step, period, wished};
-ghost use Rattle.emc2305_fan.specs.Tick.{ramp_of, with_ramp, clock_ticked, ticked, busy};
+ghost use Rattle.emc2305_fan.specs.Tick.{clock_ticked, ticked, busy};
 
 use crate::{
     CONFIGURATION_1, CONFIGURATION_2, DRIVER_OFF, Fan, MAX_STEP, MINIMUM_DRIVE, RAMP, SETTING,
     TARGET_HIGH, tables,
 };
-use ramps::Ramp;
 
 impl Fan {
     // Closed loop with target high FFh.
@@ -86,30 +86,18 @@ impl Fan {
         }
     }
 
-    // Where the ramp stands.
-    fn ramp(self) -> Ramp
-        ensures { result ≡ ramp_of self }
-    {
-        Ramp {
-            drive: self.drive,
-            clock: self.clock,
-        }
-    }
-
-    fn with_ramp(mut self, ramp: Ramp) -> Fan
-        ensures { result ≡ with_ramp ramp self }
-    {
-        self.drive = ramp.drive;
-        self.clock = ramp.clock;
-        self
-    }
-
-    // A tick that the update clock counts.
-    fn clock_tick(self) -> Fan
+    // A tick that the update clock counts. A clock past its period acts as at the period.
+    fn clock_tick(mut self) -> Fan
         ensures { result ≡ clock_ticked self }
     {
-        let next = self.ramp().tick(self.goal(), self.step(), self.period());
-        self.with_ramp(next)
+        // In u16, so that a clock of 255 does not overflow.
+        if self.clock as u16 + 1 < self.period() as u16 {
+            self.clock = self.clock + 1;
+        } else {
+            self.drive = ramp_update(self.drive, self.goal(), self.step());
+            self.clock = 0;
+        }
+        self
     }
 
     // Whether a tick changes anything: a spin-up runs, or the update clock counts.
@@ -147,15 +135,39 @@ impl Fan {
         }
     }
 
-    // So many ticks that the update clock counts.
+    // So many ticks that the update clock counts. A clock past its period acts first.
     fn clock_ticks(self, count: u16) -> Fan
         requires { (under_ramp self ≡ true) × (self.spin.running ≡ false) }
         ensures { result ≡ repeated count ticked self }
     {
-        let after = self
-            .ramp()
-            .ticks(self.goal(), self.step(), self.period(), count);
-        self.with_ramp(after)
+        if self.clock < self.period() {
+            self.ramped(count)
+        } else if count == 0 {
+            self
+        } else {
+            self.clock_tick().ramped(count - 1)
+        }
+    }
+
+    // So many ticks by the closed formula: a step for each whole period, and the clock at what is left.
+    fn ramped(mut self, count: u16) -> Fan
+        requires { (under_ramp self ≡ true) × (self.spin.running ≡ false) × (self.clock < period self) }
+        ensures { result ≡ repeated count ticked self }
+    {
+        let counted = self.clock as u32 + count as u32;
+        let period = self.period() as u32;
+        // No division where no update comes.
+        if counted < period {
+            self.clock = counted as u8;
+            return self;
+        }
+        self.drive = moved(
+            self.drive,
+            self.goal(),
+            self.step() as u32 * (counted / period),
+        );
+        self.clock = (counted % period) as u8;
+        self
     }
 }
 
@@ -163,4 +175,30 @@ fn larger(a: u8, b: u8) -> u8
     ensures { result ≡ max a b }
 {
     if a < b { b } else { a }
+}
+
+// One ramp update.
+pub fn ramp_update(drive: u8, goal: u8, step: u8) -> u8
+    ensures { result ≡ moved drive goal step }
+{
+    moved(drive, goal, step as u32)
+}
+
+// The drive moved toward the goal by the smaller of `by` and the distance.
+fn moved(drive: u8, goal: u8, by: u32) -> u8
+    ensures { result ≡ moved drive goal by }
+{
+    if drive <= goal {
+        if by < (goal - drive) as u32 {
+            drive + by as u8
+        } else {
+            goal
+        }
+    } else {
+        if by < (drive - goal) as u32 {
+            drive - by as u8
+        } else {
+            goal
+        }
+    }
 }

@@ -7,6 +7,7 @@ mod stored;
 mod tables;
 mod tach;
 
+pub use drive::ramp_update;
 pub use registers::is_locked;
 
 // The offsets of a fan's registers that a rule names.

@@ -228,6 +228,6 @@ fn ramp(drive: u8, goal: u8, step: u8) {
     show::text(b" by");
     show::number(step);
     show::text(b":");
-    show::number(ramps::update(drive, goal, step));
+    show::number(emc2305_fan::ramp_update(drive, goal, step));
     show::text(b"\n");
 }

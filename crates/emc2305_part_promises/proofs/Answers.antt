@@ -24,7 +24,7 @@ use Rattle.emc2305_chip.specs.Watching.{fed_chip}
 use Rattle.emc2305_chip.specs.Registers.{shown_at}
 use Rattle.emc2305_chip.proofs.Moves.{cleared_part}
 use Rattle.emc2305.specs.Transfers.{byte_read}
-use Rattle.emc2305.specs.Step.{before_power, foreign, absent, elsewhere, step_number, reply_to}
+use Rattle.emc2305.specs.Step.{before_power, absent, elsewhere, step_number, reply_to}
 use Rattle.emc2305.proofs.Effects.{by_effect}
 use Rattle.emc2305.proofs.Numbers.{numbered}
 use Rattle.emc2305.proofs.Turns.{reply_length_lem}
@@ -64,13 +64,11 @@ module _ (part : Part) (powered : Bool) (address : ℕ) (log : List ℕ) (event 
       let z = eqb-true (range_number log event) 0 r in
       by_test (before_power powered event) (λ b. rw (z, b, and-false (absent part event)))
       (λ b.
-      by_test (foreign event) (λ k. rw (z, b, k, and-false (absent part event)))
-      (λ k.
       by_test (absent part event)
       (λ a.
       let n = no_transfer part address log event a in
-      rw (z, b, k, a, five_there log event z, n.0, n.1, le-ltb room 0 (omega arith)))
-      (λ a. rw (z, b, k, a, five_there log event z)))))
+      rw (z, b, a, five_there log event z, n.0, n.1, le-ltb room 0 (omega arith)))
+      (λ a. rw (z, b, a, five_there log event z))))
       (λ r. rw (r, r, and-false (absent part event)))
 
 number_alike : (h : Handed) (c d : Chip) → AsFive c d → number_of h c ≡ cond (absent c.part h.event && eqb (number_of h d) 0) 21 (number_of h d)

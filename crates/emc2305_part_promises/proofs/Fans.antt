@@ -5,7 +5,7 @@ use mathlib.Core.List.{List}
 use Prim.Native.Nat.{ℕ, zero, suc, ◌+◌, ◌-◌, ◌≤◌, ◌<◌}
 use native.Mathlib.Omega.{arith}
 use native.Mathlib.Nat.{add-zero, add-suc}
-use lib.Dec.{eqb}
+use lib.Dec.{leb, eqb}
 use lib.ListN.{set, length-set}
 use lib.Seq.{get_or-set_same, get_or-set_other}
 use borrow.Author.Tests.{eqb-true, eqb-false}
@@ -15,9 +15,9 @@ use Rattle.laws.proofs.Tests.{by_test}
 use Rattle.emc2305_fan.specs.declared.Bit.{Bit}
 use Rattle.emc2305_fan.specs.declared.Bit.TheVariants.{Stall, Spin}
 use Rattle.emc2305_fan.specs.declared.Fan.{Fan}
-use Rattle.emc2305_fan.specs.Drive.{under_ramp}
+use Rattle.emc2305_fan.specs.Drive.{under_ramp, period}
 use Rattle.emc2305_fan.specs.Spin.{spin_tick}
-use Rattle.emc2305_fan.specs.Tick.{clock_ticked, ticked}
+use Rattle.emc2305_fan.specs.Tick.{updated, clock_ticked, ticked}
 use Rattle.emc2305_fan.specs.Tach.{fired}
 use Rattle.emc2305_fan.specs.Status.{standing, stuck, bit_read}
 use Rattle.emc2305_chip.specs.Fans.{no_fan, fan_at, bits_of, interrupting}
@@ -25,8 +25,8 @@ use Rattle.emc2305_part_promises.specs.Alike.{Undriven, FansAlike}
 
 -- an undriven fan stays one over a tick, the watchdog's firing, a read of 25h or 26h
 undriven_clock : (f : Fan) → Undriven f → Undriven (clock_ticked f)
-unfolding clock_ticked
-undriven_clock f u = u
+unfolding clock_ticked updated
+undriven_clock f u = by_test (leb (period f) (f.clock + 1)) (λ p. rw p u) (λ p. rw p u)
 
 either_undriven : (t : Bool) (f g : Fan) → Undriven f → Undriven g → Undriven (cond t f g)
 either_undriven true f g u v = u

@@ -99,10 +99,10 @@ module _ (h : Handed) (c : Chip) where
   unfolding stepped
   next_taken e =
       let z : n ≡ 0 = sym (numbered c h.log h.event h.room) ∙ e in
-      let told = (step_numbers c.part c.powered c.address h.log h.event h.room).6.0 z in
+      let told = (step_numbers c.part c.powered c.address h.log h.event h.room).5.0 z in
       let step : stepped c h.log h.event h.room
       ≡ record { number = 0; laid = reply_length h.log h.event; chip = taken h.log h.event c } = rw (eq-eqb n 0 z) in
-      (ap (λ (a : Answer). a.chip) step, told.0, told.3)
+      (ap (λ (a : Answer). a.chip) step, told.0, told.2)
 
   pub next_refused : (number_of h c ≡ 0 → ⊥) → next h c ≡ c
   unfolding stepped

@@ -14,10 +14,10 @@ use Rattle.laws.proofs.Divide.{one_more, one_round}
 use Rattle.laws.proofs.Tests.{by_test, and_left, and_right}
 use Rattle.eventlog.specs.Kinds.{ticks_of}
 use Rattle.eventlog.specs.Range.{range_number}
-use Rattle.ramps.specs.Ramp.{moved, counted}
+use Rattle.emc2305_fan.specs.Ramp.{moved}
 use Rattle.emc2305_fan.specs.Drive.{under_ramp, period}
-use Rattle.emc2305_fan.specs.Tick.{updated, clock_ticked, ticked}
-use Rattle.ramps.proofs.Moves.{one_update, updates, arrives}
+use Rattle.emc2305_fan.specs.Tick.{clock_ticked, ticked}
+use Rattle.emc2305_fan.proofs.Ramps.{one_update, updates, arrives}
 use Rattle.emc2305_watchdog.specs.declared.Watch.TheVariants.{Off}
 use Rattle.emc2305_chip.specs.declared.Chip.{Chip}
 use Rattle.emc2305_chip.specs.Ticks.{chip_ticked}
@@ -50,7 +50,7 @@ refused_meets i h c t off =
     simp (t, e, off, same, never f.spin.running, and-false (is_wish_for i h.event), and-false (is_sample h.event)))
 
 pub update_ticks : UpdateTicks
-unfolding ticked clock_ticked counted updated under_ramp
+unfolding ticked clock_ticked under_ramp
 update_ticks f =
     by_test f.spin.running
     (λ e. (λ a. absurd (false≢true (and_left false false (and_right (under_ramp f) false (rw e at a)))), λ n. absurd (true≢false (sym e ∙ n))))

@@ -4,7 +4,6 @@ use mathlib.Core.Bool.{Bool, true, false, cond, true≢false}
 use mathlib.Core.List.{List, [], ◌∷◌}
 use Prim.Native.Nat.{ℕ, zero, suc}
 use lib.ListN.{length, get_or}
-use Rattle.laws.specs.Bits.{bit}
 use Rattle.laws.specs.Buffer.{bytes_at}
 use Rattle.laws.specs.Repeat.{repeated}
 use Rattle.laws.proofs.Lists.{moved_none}
@@ -12,6 +11,7 @@ use Rattle.laws.proofs.Tests.{by_test}
 use Rattle.eventlog.specs.declared.Event.{Event}
 use Rattle.emc2305_fan.specs.declared.Bit.TheVariants.{Stall, Spin}
 use Rattle.emc2305_fan.specs.declared.Fan.{Fan}
+use Rattle.emc2305_fan.specs.Registers.{bit}
 use Rattle.emc2305_fan.specs.Tick.{ticked}
 use Rattle.emc2305_fan.specs.Tach.{fired}
 use Rattle.emc2305_fan.specs.Status.{bit_read}

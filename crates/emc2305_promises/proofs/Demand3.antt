@@ -6,8 +6,8 @@ use Prim.Native.Nat.{ℕ, ◌+◌, ◌*◌, ◌/◌, ◌%◌, ◌<◌}
 use native.Mathlib.Omega.{arith}
 use native.Mathlib.Nat.{add_assoc, mul-add, mod-add-mod, div-add-mod', mul-add-div_right}
 use Rattle.eventlog.specs.Kinds.{ticks_of}
-use Rattle.ramps.specs.Ramp.{moved}
-use Rattle.ramps.proofs.Moves.{moved_twice}
+use Rattle.emc2305_fan.specs.Ramp.{moved}
+use Rattle.emc2305_fan.proofs.Ramps.{moved_twice}
 use Rattle.emc2305_chip.specs.declared.Chip.{Chip}
 use Rattle.walks.specs.Sequence as any
 use Rattle.emc2305_promises.specs.Ramp.{next, is_taken, after_all, taken_ticks, undisturbed, RampPromise}

@@ -57,7 +57,7 @@ module _ (h : Handed) (c : Chip) where
       let e : stepped c h.log h.event h.room
       ≡ record { number = 0; laid = reply_length h.log h.event; chip = taken h.log h.event c } = rw t in
       is (ap (λ (a : Answer). eqb a.number 0) e) (ap (λ (a : Answer). a.chip) e)
-      (numbers.6.0 (eqb-true n 0 t)).0)
+      (numbers.5.0 (eqb-true n 0 t)).0)
       (λ f.
       let e : stepped c h.log h.event h.room ≡ record { number = n; laid = 0; chip = c } = rw f in
       isnt (ap (λ (a : Answer). eqb a.number 0) e ∙ f) (ap (λ (a : Answer). a.chip) e))

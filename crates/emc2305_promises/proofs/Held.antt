@@ -8,7 +8,6 @@ use lib.Dec.{leb, ltb}
 use lib.ListN.{length, get_or, set, length-set, get_or-eq_default}
 use lib.Seq.{get_or-set_other, get_or-set_same}
 use borrow.Author.Tests.{leb-true, leb-false, le-ltb, eqb-true, not-true, not-false}
-use Rattle.laws.specs.Bits.{bit}
 use Rattle.laws.specs.Repeat.{repeated}
 use Rattle.laws.proofs.Repeat.{first_steps}
 use Rattle.laws.proofs.Tests.{by_test, and_left, and_right}
@@ -19,10 +18,10 @@ use Rattle.eventlog.proofs.Ranges.{reply_small}
 use Rattle.emc2305_fan.specs.declared.Bit.{Bit}
 use Rattle.emc2305_fan.specs.declared.Bit.TheVariants.{Stall, Spin}
 use Rattle.emc2305_fan.specs.declared.Fan.{Fan}
-use Rattle.emc2305_fan.specs.Registers.{byte_at, valid_count, closed_loop}
-use Rattle.emc2305_fan.specs.Drive.{under_ramp, wished}
+use Rattle.emc2305_fan.specs.Registers.{bit, byte_at, valid_count, closed_loop}
+use Rattle.emc2305_fan.specs.Drive.{under_ramp, period, wished}
 use Rattle.emc2305_fan.specs.Spin.{too_slow, last_tick}
-use Rattle.emc2305_fan.specs.Tick.{clock_ticked, ticked}
+use Rattle.emc2305_fan.specs.Tick.{updated, clock_ticked, ticked}
 use Rattle.emc2305_fan.specs.Tach.{count_high, count_low, with_reading, sampled, fired}
 use Rattle.emc2305_fan.specs.Status.{standing, stuck, bit_read}
 use Rattle.emc2305_fan.proofs.Steps.{ticks_ramp, ticks_still, healthy}
@@ -68,8 +67,11 @@ slow_kept slow =
 
 -- a bit that ticks cannot set
 still : (f : Fan) → f.spin.running ≡ false → (ticked f).spin.running ≡ false
-unfolding clock_ticked
-still f e = by_test (under_ramp f) (λ u. rw (ticks_ramp f e u) e) (λ u. rw (ticks_still f e u) e)
+unfolding clock_ticked updated
+still f e =
+    by_test (under_ramp f)
+    (λ u. rw (ticks_ramp f e u) (by_test (leb (period f) (f.clock + 1)) (λ t. rw t e) (λ t. rw t e)))
+    (λ u. rw (ticks_still f e u) e)
 
 wished_still : (w : ℕ) (f : Fan) → f.spin.running ≡ false → (wished w f).spin.running ≡ false
 unfolding wished

@@ -19,13 +19,13 @@ use Rattle.eventlog.proofs.Ranges.{fan_right_lem}
 use Rattle.emc2305_fan.specs.declared.Fan.{Fan}
 use Rattle.emc2305_fan.specs.State.{with_wish}
 use Rattle.emc2305_fan.specs.Registers.{byte_at, closed_loop}
-use Rattle.ramps.specs.Ramp.{moved}
+use Rattle.emc2305_fan.specs.Ramp.{moved}
 use Rattle.emc2305_fan.specs.Drive.{goal, under_ramp, wished}
 use Rattle.emc2305_fan.specs.Spin.{started, too_slow}
 use Rattle.emc2305_fan.specs.Tick.{ticked}
 use Rattle.emc2305_fan.specs.Status.{but_status}
 use Rattle.emc2305_fan.specs.Tach.{count_high, count_low, with_reading, judged, stall, sampled}
-use Rattle.ramps.proofs.Moves.{stays}
+use Rattle.emc2305_fan.proofs.Ramps.{stays}
 use Rattle.emc2305_fan.proofs.Ticks.{ramp_ticks}
 use Rattle.emc2305_watchdog.specs.declared.Watch.TheVariants.{Off}
 use Rattle.emc2305_watchdog.specs.Watch.{is_off, in_power_up}

@@ -6,7 +6,6 @@ use Prim.Native.Nat.{ℕ, zero, suc, ◌+◌, ◌-◌, ◌%◌, ◌≤◌, ◌<�
 use native.Mathlib.Omega.{arith}
 use lib.Dec.{eqb}
 use borrow.Author.Tests.{lt-leb, eqb-true, eqb-false}
-use Rattle.laws.specs.Bits.{bit}
 use Rattle.laws.specs.Repeat.{repeated}
 use Rattle.laws.proofs.Repeat.{repeated_add}
 use Rattle.laws.proofs.Tests.{by_test, or_left, or_right}
@@ -15,6 +14,7 @@ use Rattle.eventlog.specs.Kinds.{reply_length}
 use Rattle.emc2305_fan.specs.declared.Bit.{Bit}
 use Rattle.emc2305_fan.specs.declared.Bit.TheVariants.{Stall, Spin}
 use Rattle.emc2305_fan.specs.declared.Fan.{Fan}
+use Rattle.emc2305_fan.specs.Registers.{bit}
 use Rattle.emc2305_fan.specs.Spin.{too_slow}
 use Rattle.emc2305_fan.specs.Status.{standing, other, stuck, bit_read}
 use Rattle.emc2305_fan.proofs.Statuses.{kept, status_read}

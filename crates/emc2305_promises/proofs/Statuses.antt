@@ -2,15 +2,15 @@
 use mathlib.Core.Path.{◌≡◌, refl, sym, ap, ◌∙◌}
 use mathlib.Core.Bool.{Bool, true, false, not, ◌&&◌}
 use mathlib.Core.List.{List, [], ◌∷◌}
-use Prim.Native.Nat.{ℕ}
-use lib.Dec.{eqb}
+use Prim.Native.Nat.{ℕ, ◌+◌}
+use lib.Dec.{leb, eqb}
 use Rattle.laws.proofs.Tests.{by_test}
 use Rattle.emc2305_fan.specs.declared.Fan.{Fan}
 use Rattle.emc2305_fan.specs.State.{with_failed}
 use Rattle.emc2305_fan.specs.Registers.{closed_loop, stores}
-use Rattle.emc2305_fan.specs.Drive.{goal, under_ramp, wished}
+use Rattle.emc2305_fan.specs.Drive.{goal, under_ramp, period, wished}
 use Rattle.emc2305_fan.specs.Spin.{started, too_slow, spin_failed, spin_over, last_tick, spin_tick}
-use Rattle.emc2305_fan.specs.Tick.{clock_ticked, ticked}
+use Rattle.emc2305_fan.specs.Tick.{updated, clock_ticked, ticked}
 use Rattle.emc2305_fan.specs.Stored.{put, wish_taken, clears_clock, clock_set, spin_starts, settled, written}
 use Rattle.emc2305_fan.specs.Tach.{with_reading, judged, stall, sampled}
 use Rattle.emc2305_fan.specs.Status.{but_status, bit_read}
@@ -46,8 +46,8 @@ unfolding spin_tick
 blind_spin f = by_test (last_tick f.spin) (λ t. rw t (blind_over f)) (λ t. rw t)
 
 blind_clock_ticked : Blind clock_ticked
-unfolding clock_ticked goal
-blind_clock_ticked f = refl
+unfolding clock_ticked updated goal
+blind_clock_ticked f = by_test (leb (period f) (f.clock + 1)) (λ t. rw t) (λ t. rw t)
 
 blind_ticked : Blind ticked
 unfolding under_ramp

@@ -1,7 +1,7 @@
 -- Sequences and a log that demand 3 speaks of: fan 2 ramps up while its neighbours are busy, events are refused and samples come in.
 use Rattle.std.specs.Prelude.{◌≡◌, true, false, List, [], ◌∷◌, ◌++◌, map, ℕ}
 use Rattle.eventlog.specs.declared.Event.{Event}
-use Rattle.eventlog.specs.declared.Event.TheVariants.{PowerOn, Ticks, Sample, Wish, Transfer, Temperature}
+use Rattle.eventlog.specs.declared.Event.TheVariants.{PowerOn, Ticks, Sample, Wish, Transfer}
 use Rattle.eventlog.specs.Layout.{laid_out}
 use Rattle.emc2305_fan.specs.Registers.{closed_loop}
 use Rattle.emc2305_chip.specs.declared.Chip.{Chip}
@@ -29,7 +29,7 @@ ready =
     after_all (map with_bytes (PowerOn 0x2C ∷ Transfer false 0x2C 0 2 ∷ Transfer false 0x2C 2 2 ∷ Ticks 50 ∷ [])) unpowered
 
 -- fan 1 spins up, fan 3 gets another Max Step and Minimum Drive, the chip is locked
--- refused: a transfer to another address, a power-on with address 200, a temperature sample, a read whose reply has no room
+-- refused: a transfer to another address, a power-on with address 200, a read whose reply has no room
 -- of fan 2 itself: a write that the lock keeps from being stored, a wish in direct mode, a good sample and one that stalls, its status read
 abbrev pub busy_events : List Handed
 busy_events =
@@ -37,7 +37,6 @@ busy_events =
     ∷ with_bytes (Ticks 20)
     ∷ with_bytes (Transfer false 0x2D 2 2)
     ∷ with_bytes (PowerOn 200)
-    ∷ with_bytes (Temperature 2 60)
     ∷ with_bytes (Sample 2 100)
     ∷ with_bytes (Wish 2 7)
     ∷ with_bytes (Transfer false 0x2C 6 3)
@@ -61,7 +60,7 @@ abbrev pub BusyRamp : Type 0
 BusyRamp =
     Ramping 1 153 240 16 32 10 ready
     × (throughout (undisturbed 1) busy_events ready ≡ true)
-    × (numbers_of busy_events ready ≡ 0 ∷ 0 ∷ 7 ∷ 10 ∷ 22 ∷ 0 ∷ 0 ∷ 0 ∷ 0 ∷ 8 ∷ 0 ∷ 0 ∷ 0 ∷ 0 ∷ 0 ∷ 0 ∷ [])
+    × (numbers_of busy_events ready ≡ 0 ∷ 0 ∷ 7 ∷ 10 ∷ 0 ∷ 0 ∷ 0 ∷ 0 ∷ 8 ∷ 0 ∷ 0 ∷ 0 ∷ 0 ∷ 0 ∷ 0 ∷ [])
     × (taken_ticks busy_events ready ≡ 90)
     × (updates_made 1 busy_events ready ≡ 3)
     × ((fan_of 1 (after_all busy_events ready)).drive ≡ 201)

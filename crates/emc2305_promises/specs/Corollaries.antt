@@ -4,10 +4,10 @@ use Rattle.laws.specs.Repeat.{repeated}
 use Rattle.eventlog.specs.declared.Event.TheVariants.{Ticks}
 use Rattle.eventlog.specs.Kinds.{ticks_of}
 use Rattle.emc2305_fan.specs.declared.Fan.{Fan}
-use Rattle.ramps.specs.Ramp.{distance, moved}
+use Rattle.emc2305_fan.specs.Ramp.{distance, moved}
 use Rattle.emc2305_fan.specs.Drive.{under_ramp, period}
 use Rattle.emc2305_fan.specs.Tick.{updated, ticked}
-use Rattle.ramps.specs.Promises.{updates_to}
+use Rattle.emc2305_fan.specs.Promises.{updates_to}
 use Rattle.emc2305_watchdog.specs.Watch.{is_off}
 use Rattle.emc2305_chip.specs.declared.Chip.{Chip}
 use Rattle.emc2305_chip.specs.Ticks.{chip_ticked}

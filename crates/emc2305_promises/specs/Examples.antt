@@ -12,8 +12,7 @@ use Rattle.emc2305_fan.specs.Registers.{power_on}
 use Rattle.emc2305_fan.specs.Tick.{ticked}
 use Rattle.emc2305_fan.specs.Stored.{written}
 use Rattle.emc2305_fan.specs.Tach.{sampled}
-use Rattle.ramps.specs.Promises.{after_updates}
-use Rattle.emc2305_fan.specs.Promises.{drive_after}
+use Rattle.emc2305_fan.specs.Promises.{after_updates, drive_after}
 use Rattle.emc2305_chip.specs.declared.Chip.{Chip}
 use Rattle.emc2305_chip.specs.Registers.{unpowered, shown_at}
 use Rattle.emc2305_chip.specs.Promises.{all_defaults, shown_below}

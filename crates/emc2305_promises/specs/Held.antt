@@ -1,6 +1,5 @@
 -- A rotor that is held, and one that turns again: what reads of 25h and 26h show.
 use Rattle.std.specs.Prelude.{◌≡◌, Bool, true, false, not, ◌&&◌, ◌||◌, List, [], ◌∷◌, ◌++◌, ℕ, zero, suc, ◌+◌, ◌≤◌, ◌<◌, ltb, eqb, length, get_or}
-use Rattle.laws.specs.Bits.{bit}
 use Rattle.laws.specs.Repeat.{repeated}
 use Rattle.eventlog.specs.declared.Event.TheVariants.{Sample}
 use Rattle.eventlog.specs.Kinds.{reply_length}
@@ -8,7 +7,7 @@ use Rattle.eventlog.specs.Layout.{laid_out}
 use Rattle.emc2305_fan.specs.declared.Bit.{Bit}
 use Rattle.emc2305_fan.specs.declared.Bit.TheVariants.{Stall, Spin}
 use Rattle.emc2305_fan.specs.declared.Fan.{Fan}
-use Rattle.emc2305_fan.specs.Registers.{valid_count}
+use Rattle.emc2305_fan.specs.Registers.{bit, valid_count}
 use Rattle.emc2305_fan.specs.Spin.{too_slow}
 use Rattle.emc2305_fan.specs.Tach.{count_high}
 use Rattle.emc2305_fan.specs.Status.{standing}

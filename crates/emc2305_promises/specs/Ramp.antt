@@ -2,7 +2,7 @@
 use Rattle.std.specs.Prelude.{◌≡◌, Bool, true, false, not, ◌&&◌, List, ℕ, ◌+◌, ◌*◌, ◌/◌, ◌%◌, ◌<◌, eqb}
 use Rattle.eventlog.specs.Kinds.{is_power_on}
 use Rattle.emc2305_fan.specs.declared.Fan.{Fan}
-use Rattle.ramps.specs.Ramp.{moved}
+use Rattle.emc2305_fan.specs.Ramp.{moved}
 use Rattle.emc2305_fan.specs.Drive.{goal, under_ramp, step, period}
 use Rattle.emc2305_watchdog.specs.Watch.{is_off}
 use Rattle.emc2305_chip.specs.declared.Chip.{Chip}

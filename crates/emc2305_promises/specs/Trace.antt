@@ -1,6 +1,6 @@
 -- Demand 3 over a log: the part of a run between two of its records.
 use Rattle.std.specs.Prelude.{◌≡◌, true, List, ℕ, ◌+◌, ◌*◌, ◌/◌, ◌%◌}
-use Rattle.ramps.specs.Ramp.{moved}
+use Rattle.emc2305_fan.specs.Ramp.{moved}
 use Rattle.walks.specs.Run.{Walk}
 use Rattle.walks.specs.Sequence.{Handed}
 use Rattle.walks.specs.Sequence as any

@@ -50,7 +50,6 @@ numbers poles log = (
   own_number poles log 6 (λ z. omega arith) (λ z. omega arith) (refl, λ z. omega arith),
   own_number poles log 7 (λ z. omega arith) (λ z. omega arith) (refl, λ z. omega arith),
   own_number poles log 21 (λ z. omega arith) (λ z. omega arith) (refl, λ z. omega arith),
-  own_number poles log 22 (λ z. omega arith) (λ z. omega arith) (refl, λ z. omega arith),
 )
 
 pub shown : Shown
@@ -89,7 +88,7 @@ absent_number c log other count h =
     ne_eqb _ 0
     (λ e.
     true≢false
-    (sym (lt-ltb (fan_count c) other h) ∙ ((step_numbers c.part c.powered c.address log (Sample other count) 32).6.0 e).3))
+    (sym (lt-ltb (fan_count c) other h) ∙ ((step_numbers c.part c.powered c.address log (Sample other count) 32).5.0 e).2))
 
 pub absent_aside : AbsentAside
 unfolding stepped samples_from

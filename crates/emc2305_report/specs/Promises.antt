@@ -12,7 +12,7 @@ use Rattle.emc2305_chip.specs.declared.Chip.{Chip}
 use Rattle.emc2305_chip.specs.State.{fan_count}
 use Rattle.emc2305_report.specs.Speeds.{gauge, refused, speeds_of}
 
--- 13 just where the poles are outside 1 to 4, and then all else is 0; never 8, and none of 6, 7, 21 and 22, after which it walks on
+-- 13 just where the poles are outside 1 to 4, and then all else is 0; never 8, and none of 6, 7 and 21, after which it walks on
 abbrev pub Numbers : Type 0
 Numbers =
     (poles : ℕ) (log : List ℕ)
@@ -22,7 +22,6 @@ Numbers =
     × ((speeds_of poles log).number ≢ 6)
     × ((speeds_of poles log).number ≢ 7)
     × ((speeds_of poles log).number ≢ 21)
-    × ((speeds_of poles log).number ≢ 22)
 
 -- of poles in range, a sample with a count above 0 is shown with its RPM
 abbrev pub Shown : Type 0

@@ -15,7 +15,7 @@ use Rattle.eventlog.specs.Numbers.{walks_on}
 use Rattle.emc2305_chip.specs.declared.Chip.{Chip}
 use Rattle.emc2305_chip.specs.Watching.{fed_chip}
 use Rattle.emc2305.specs.declared.Answer.{Answer}
-use Rattle.emc2305.specs.Step.{before_power, foreign, absent, elsewhere, step_number, reply_to, stepped, reply_after}
+use Rattle.emc2305.specs.Step.{before_power, absent, elsewhere, step_number, reply_to, stepped, reply_after}
 use Rattle.emc2305.proofs.Numbers.{step_numbers, numbered, refused, taken_step}
 use Rattle.emc2305.proofs.SameSteps.{same_events}
 use Rattle.emc2305.proofs.Turns.{reply_length_lem}
@@ -36,7 +36,7 @@ reply_fits c log event room z =
     let k = reply_length log event in
     let l : length (reply_to log event c) ≡ k = reply_length_lem k (fed_chip c) k in
     let t : eqb (stepped c log event room).number 0 ≡ true = eq-eqb (stepped c log event room).number 0 z in
-    (rw t l, ((step_numbers c.part c.powered c.address log event room).6.0 (sym (numbered c log event room) ∙ z)).5)
+    (rw t l, ((step_numbers c.part c.powered c.address log event room).5.0 (sym (numbered c log event room) ∙ z)).4)
 
 walks_or_no_room : WalksOrNoRoom emc2305
 walks_or_no_room c log event room good =
@@ -44,15 +44,13 @@ walks_or_no_room c log event room good =
     let numbers = step_numbers c.part c.powered c.address log event room in
     by_test (before_power c.powered event) (λ b. inl (rw (n, numbers.1.1 (good, b))))
     (λ b.
-    by_test (foreign event) (λ k. inl (rw (n, numbers.2.1 (good, b, k))))
-    (λ k.
-    by_test (absent c.part event) (λ a. inl (rw (n, numbers.3.1 (good, b, k, a))))
+    by_test (absent c.part event) (λ a. inl (rw (n, numbers.2.1 (good, b, a))))
     (λ a.
-    by_test (elsewhere c.address event) (λ e. inl (rw (n, numbers.4.1 (good, b, k, a, e))))
+    by_test (elsewhere c.address event) (λ e. inl (rw (n, numbers.3.1 (good, b, a, e))))
     (λ e.
     by_test (ltb room (reply_length log event))
-    (λ s. let short = ltb-true room (reply_length log event) s in inr (n ∙ numbers.5.1 (good, b, k, a, e, short), short))
-    (λ s. inl (rw (n, numbers.6.1 (good, b, k, a, e, ltb-false room (reply_length log event) s))))))))
+    (λ s. let short = ltb-true room (reply_length log event) s in inr (n ∙ numbers.4.1 (good, b, a, e, short), short))
+    (λ s. inl (rw (n, numbers.5.1 (good, b, a, e, ltb-false room (reply_length log event) s)))))))
 
 -- more room changes no number after which a run walks on
 same_number : (c : Chip) (log : List ℕ) (event : Event) (near far : ℕ) → near ≤ far → walks_on (stepped c log event near).number ≡ true
@@ -62,9 +60,9 @@ same_number c log event near far h a =
     let here = step_numbers c.part c.powered c.address log event near in
     let there = step_numbers c.part c.powered c.address log event far in
     by_walks_on (stepped c log event near).number a
-    (λ e. let t = here.6.0 (sym n ∙ e) in there.6.1 (t.0, t.1, t.2, t.3, t.4, omega (arith, t.5)) ∙ sym e ∙ n)
-    (λ e. there.1.1 (here.1.0 (sym n ∙ e)) ∙ sym e ∙ n) (λ e. there.4.1 (here.4.0 (sym n ∙ e)) ∙ sym e ∙ n)
-    (λ e. there.3.1 (here.3.0 (sym n ∙ e)) ∙ sym e ∙ n) (λ e. there.2.1 (here.2.0 (sym n ∙ e)) ∙ sym e ∙ n)
+    (λ e. let t = here.5.0 (sym n ∙ e) in there.5.1 (t.0, t.1, t.2, t.3, omega (arith, t.4)) ∙ sym e ∙ n)
+    (λ e. there.1.1 (here.1.0 (sym n ∙ e)) ∙ sym e ∙ n) (λ e. there.3.1 (here.3.0 (sym n ∙ e)) ∙ sym e ∙ n)
+    (λ e. there.2.1 (here.2.0 (sym n ∙ e)) ∙ sym e ∙ n)
 
 room_aside : RoomAside emc2305
 unfolding stepped

@@ -42,7 +42,6 @@ pub fn act(bench: Bench, which: u8, data: &[u8]) -> Bench {
         b'W' => happen(bench, wish(data), data),
         b'X' => transfer(bench, data),
         b'Q' => happen(bench, part(data), data),
-        b'Z' => happen(bench, temperature(data), data),
         b'N' => fresh(bench.room),
         b'B' => lend(bench.chip, wide(field(data, 0))),
         b'V' => watch(bench, field(data, 0), word(field(data, 1), field(data, 2))),
@@ -97,13 +96,6 @@ fn part(data: &[u8]) -> Event {
     Event::PowerOnPart {
         address: field(data, 0),
         fans: field(data, 1),
-    }
-}
-
-fn temperature(data: &[u8]) -> Event {
-    Event::Temperature {
-        zone: field(data, 0),
-        byte: field(data, 1),
     }
 }
 

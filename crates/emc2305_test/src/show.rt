@@ -64,7 +64,6 @@ pub fn event(event: Event, log: &[u8]) {
             hexes(log);
         }
         Event::PowerOnPart { address, fans } => pair(b"part-on ", address, fans as u16),
-        Event::Temperature { zone, byte } => pair(b"temperature ", zone, byte as u16),
     }
 }
 

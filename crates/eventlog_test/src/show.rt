@@ -83,10 +83,6 @@ pub fn event(event: Event, log: &[u8]) {
             named(b"part-on ", address as u64);
             named(b" ", fans as u64);
         }
-        Event::Temperature { zone, byte } => {
-            named(b"temperature ", zone as u64);
-            named(b" ", byte as u64);
-        }
     }
 }
 

@@ -56,10 +56,6 @@ fn event_of(fields: &[u8]) -> Event {
             address: small,
             fans: fields[2],
         },
-        7 => Event::Temperature {
-            zone: small,
-            byte: fields[2],
-        },
         kind => Event::Transfer {
             reads: kind == READS,
             address: small,

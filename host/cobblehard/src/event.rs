@@ -23,8 +23,6 @@ pub enum Event<'a> {
     Read { address: u8, count: u8 },
     /// Power-on of a part with 1, 2 or 3 fans, an EMC2301, EMC2302 or EMC2303, at a bus address 0..=127.
     PowerOnPart { address: u8, fans: u8 },
-    /// A temperature sample of zone 1..=3, with any byte. The EMC2305 and the smaller parts do not take it.
-    Temperature { zone: u8, byte: u8 },
 }
 
 const END: u8 = 0;
@@ -34,13 +32,12 @@ const SAMPLE: u8 = 3;
 const WISH: u8 = 4;
 const TRANSFER: u8 = 5;
 const POWER_ON_PART: u8 = 6;
-const TEMPERATURE: u8 = 7;
 
 const READS: u16 = 1;
 
 impl Event<'_> {
     /// Lays the event's record at the front of `out` and gives its length. A refusal leaves `out` as it was: that of the field
-    /// which is out of range and comes first in the record (5, 9, 10, 11, 15 or 16), else 8.
+    /// which is out of range and comes first in the record (5, 9, 10, 11 or 15), else 8.
     pub fn write_to(&self, out: &mut [u8]) -> Result<usize, Refusal> {
         match *self {
             Event::PowerOn { address } => write(POWER_ON, address, 0, &[], out),
@@ -50,7 +47,6 @@ impl Event<'_> {
             Event::Write { address, bytes } => write(TRANSFER, address, 0, bytes, out),
             Event::Read { address, count } => write(TRANSFER, address, READS, &[count], out),
             Event::PowerOnPart { address, fans } => write(POWER_ON_PART, address, u16::from(fans), &[], out),
-            Event::Temperature { zone, byte } => write(TEMPERATURE, zone, u16::from(byte), &[], out),
         }
     }
 
@@ -132,15 +128,11 @@ fn event(kind: u8, unit: u8, value: u16, bytes: &[u8]) -> Option<Event<'_>> {
             address: unit,
             fans: byte(value),
         },
-        TEMPERATURE => Event::Temperature {
-            zone: unit,
-            byte: byte(value),
-        },
         _ => panic!("libcobblehard gave the kind {kind}"),
     })
 }
 
-/// A wish, a number of fans or a temperature, which is a byte in its record.
+/// A wish or a number of fans, which is a byte in its record.
 fn byte(value: u16) -> u8 {
     u8::try_from(value).expect("a value of the library that is a byte")
 }

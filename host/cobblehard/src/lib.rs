@@ -57,9 +57,6 @@
 //! # Ok::<(), cobblehard::Refusal>(())
 //! ```
 //!
-//! A log may have temperature samples too, [`Event::Temperature`], for devices that have zones. The EMC2305 and the smaller parts
-//! do not take them: a run and a report walk over them.
-//!
 //! It needs libcobblehard.a and libcobblehard_speeds.a, which `rt staticlib` makes of the crates of these names; see build.rs.
 
 #[cfg(not(all(target_arch = "x86_64", target_os = "linux", target_pointer_width = "64")))]

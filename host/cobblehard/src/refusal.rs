@@ -28,17 +28,12 @@ pub enum Reason {
     TooManySamples = 14,
     /// A part with another number of fans than 1, 2 or 3; one with five is [`Event::PowerOn`](crate::Event::PowerOn)'s.
     WrongFans = 15,
-    /// A zone outside 1..=3.
-    WrongZone = 16,
     /// A sample or a wish for a fan that the part does not have. A run and a report walk on after it.
     AbsentFan = 21,
-    /// A kind that the device does not take, as [`Event::Temperature`](crate::Event::Temperature) by the EMC2305 and the smaller
-    /// parts. A run and a report walk on after it.
-    KindNotTaken = 22,
 }
 
 impl Reason {
-    const ALL: [Reason; 17] = [
+    const ALL: [Reason; 15] = [
         Reason::EndsInsideRecord,
         Reason::WrongMark,
         Reason::UnknownKind,
@@ -53,12 +48,10 @@ impl Reason {
         Reason::WrongPoles,
         Reason::TooManySamples,
         Reason::WrongFans,
-        Reason::WrongZone,
         Reason::AbsentFan,
-        Reason::KindNotTaken,
     ];
 
-    /// The reason with this number; none for 0, which stands for taken, for 12, for 17 to 20, and for those past 22.
+    /// The reason with this number; none for 0, which stands for taken, for 12, for 16 to 20, and for those past 21.
     pub fn of_number(number: u8) -> Option<Reason> {
         Reason::ALL.into_iter().find(|reason| reason.number() == number)
     }
@@ -84,9 +77,7 @@ impl Reason {
             Reason::WrongPoles => "poles out of range",
             Reason::TooManySamples => "too many samples of a fan",
             Reason::WrongFans => "number of fans out of range",
-            Reason::WrongZone => "no such zone",
             Reason::AbsentFan => "the part has no such fan",
-            Reason::KindNotTaken => "a kind that the device does not take",
         }
     }
 

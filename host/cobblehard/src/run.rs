@@ -10,7 +10,7 @@ pub struct Run {
     pub stop: Option<Refusal>,
     /// The place in the log of the stopping record, or the end.
     pub place: usize,
-    /// How many records were walked, those refused with 6, 7, 21 or 22 included and the stopping one not.
+    /// How many records were walked, those refused with 6, 7 or 21 included and the stopping one not.
     pub records: usize,
     /// How many reply bytes were laid.
     pub reply_bytes: usize,

@@ -37,7 +37,7 @@ pub struct Speeds {
     pub stop: Option<Refusal>,
     /// The place in the log of the stopping record, or the end.
     pub place: usize,
-    /// How many records were walked, those refused with 6, 7, 21 or 22 included and the stopping one not.
+    /// How many records were walked, those refused with 6, 7 or 21 included and the stopping one not.
     pub records: usize,
     /// The figures of fans 1 to 5, whatever the part, of the records before the place.
     pub fans: [Figures; FANS],

@@ -26,7 +26,7 @@ const EVENTS: [Event<'static>; 3] = [
 const HEADER: &str = include_str!("../../../include/cobblehard.h");
 
 /// Every number with its name in the header, and its words.
-const NUMBERS: [(u8, &str, &str); 18] = [
+const NUMBERS: [(u8, &str, &str); 16] = [
     (0, "COBBLEHARD_TAKEN", "taken"),
     (1, "COBBLEHARD_CUT_SHORT", "the log ends inside a record"),
     (2, "COBBLEHARD_WRONG_MARK", "a mark byte is wrong"),
@@ -46,13 +46,11 @@ const NUMBERS: [(u8, &str, &str); 18] = [
     (13, "COBBLEHARD_WRONG_POLES", "poles out of range"),
     (14, "COBBLEHARD_TOO_MANY_SAMPLES", "too many samples of a fan"),
     (15, "COBBLEHARD_WRONG_FANS", "number of fans out of range"),
-    (16, "COBBLEHARD_WRONG_ZONE", "no such zone"),
     (21, "COBBLEHARD_ABSENT_FAN", "the part has no such fan"),
-    (22, "COBBLEHARD_KIND_NOT_TAKEN", "a kind that the device does not take"),
 ];
 
 /// Those behind the first, which is no refusal.
-const REASONS: [Reason; 17] = [
+const REASONS: [Reason; 15] = [
     Reason::EndsInsideRecord,
     Reason::WrongMark,
     Reason::UnknownKind,
@@ -67,14 +65,12 @@ const REASONS: [Reason; 17] = [
     Reason::WrongPoles,
     Reason::TooManySamples,
     Reason::WrongFans,
-    Reason::WrongZone,
     Reason::AbsentFan,
-    Reason::KindNotTaken,
 ];
 
 /// What cannot be read: its number, and the place of the first faulty byte. Where there are two faults, reading's order
 /// decides and, of fields, the earlier byte: the other fault is named behind "before".
-const FAULTS: [(&[u8], u8, usize); 65] = [
+const FAULTS: [(&[u8], u8, usize); 53] = [
     // 1, where the first missing byte would stand
     (&[0x9C], 1, 1),
     (&[0x9C, 0x46], 1, 2),
@@ -86,17 +82,15 @@ const FAULTS: [(&[u8], u8, usize); 65] = [
     (&[0x9C, 0x46, 0x05, 0x03, 0x59, 0x00], 1, 6), // before a read's length byte
     (&[0x9C, 0x46, 0x06, 0x02], 1, 4),
     (&[0x9C, 0x46, 0x06, 0x02, 0x80], 1, 5), // before the address
-    (&[0x9C, 0x46, 0x07, 0x02], 1, 4),
-    (&[0x9C, 0x46, 0x07, 0x02, 0x00], 1, 5), // before the zone
     // 2, the first wrong mark byte
     (&[0x9D], 2, 0),
     (&[0x9C, 0x47], 2, 1),
     (&[0x9D, 0x47, 0x01, 0x01, 0x2C], 2, 0),
     (&[0x46, 0x9C, 0x01, 0x01, 0x2C], 2, 0),
-    (&[0x9C, 0x00, 0x08, 0x01, 0x80], 2, 1), // before the kind
+    (&[0x9C, 0x00, 0x07, 0x01, 0x80], 2, 1), // before the kind
     // 3, the kind byte
     (&[0x9C, 0x46, 0x00, 0x01, 0x2C], 3, 2),
-    (&[0x9C, 0x46, 0x08, 0x01], 3, 2), // before the payload that is short
+    (&[0x9C, 0x46, 0x07, 0x01], 3, 2), // before the payload that is short
     (&[0x9C, 0x46, 0xFF, 0x00], 3, 2), // before the length byte
     // 4, the length byte
     (&[0x9C, 0x46, 0x02, 0x09], 4, 3),             // before the payload that is short
@@ -109,10 +103,6 @@ const FAULTS: [(&[u8], u8, usize); 65] = [
     (&[0x9C, 0x46, 0x06, 0x01, 0x2C], 4, 3),
     (&[0x9C, 0x46, 0x06, 0x03, 0x80, 0x00, 0x00], 4, 3), // before the address
     (&[0x9C, 0x46, 0x06, 0xFF], 4, 3),                   // before the payload that is short
-    (&[0x9C, 0x46, 0x07, 0x00], 4, 3),
-    (&[0x9C, 0x46, 0x07, 0x01, 0x01], 4, 3),
-    (&[0x9C, 0x46, 0x07, 0x03, 0x00, 0x00, 0x00], 4, 3), // before the zone
-    (&[0x9C, 0x46, 0x07, 0xFF], 4, 3),                   // before the payload that is short
     // 5, the fan byte
     (&[0x9C, 0x46, 0x03, 0x03, 0x00, 0xFF, 0x1F], 5, 4),
     (&[0x9C, 0x46, 0x03, 0x03, 0x06, 0x00, 0x00], 5, 4),
@@ -144,13 +134,6 @@ const FAULTS: [(&[u8], u8, usize); 65] = [
     (&[0x9C, 0x46, 0x06, 0x02, 0x00, 0x04], 15, 5),
     (&[0x9C, 0x46, 0x06, 0x02, 0x7F, 0x05], 15, 5),
     (&[0x9C, 0x46, 0x06, 0x02, 0x2C, 0xFF], 15, 5),
-    // 16, the zone byte
-    (&[0x9C, 0x46, 0x07, 0x02, 0x00, 0x00], 16, 4),
-    (&[0x9C, 0x46, 0x07, 0x02, 0x00, 0x80], 16, 4),
-    (&[0x9C, 0x46, 0x07, 0x02, 0x04, 0x01], 16, 4),
-    (&[0x9C, 0x46, 0x07, 0x02, 0x05, 0x02], 16, 4),
-    (&[0x9C, 0x46, 0x07, 0x02, 0x81, 0x37], 16, 4),
-    (&[0x9C, 0x46, 0x07, 0x02, 0xFF, 0xFF], 16, 4),
 ];
 
 /// A transfer's length byte at its most, with the direction of a read.
@@ -173,7 +156,7 @@ fn stopped(outcome: Run) -> (u8, Option<usize>, [usize; 3]) {
 }
 
 /// One event of each kind, at the ends of its fields, with its record.
-fn each_kind() -> [(Event<'static>, Vec<u8>); 11] {
+fn each_kind() -> [(Event<'static>, Vec<u8>); 9] {
     const BYTES: [u8; 32] = [0xA5; 32];
     [
         (Event::PowerOn { address: 127 }, vec![0x9C, 0x46, 1, 1, 127]),
@@ -208,11 +191,6 @@ fn each_kind() -> [(Event<'static>, Vec<u8>); 11] {
         (
             Event::PowerOnPart { address: 127, fans: 1 },
             vec![0x9C, 0x46, 6, 2, 127, 1],
-        ),
-        (Event::Temperature { zone: 1, byte: 0 }, vec![0x9C, 0x46, 7, 2, 1, 0]),
-        (
-            Event::Temperature { zone: 3, byte: 255 },
-            vec![0x9C, 0x46, 7, 2, 3, 255],
         ),
     ]
 }
@@ -288,7 +266,7 @@ fn the_records_of_a_log() {
 #[test]
 fn a_refusal_is_the_last_record() {
     let mut log = LOG;
-    log[7] = 8;
+    log[7] = 7;
     let mut found = records(&log);
     assert_eq!(found.next(), Some((0, Ok(EVENTS[0]))));
     let (place, answer) = found.next().expect("the refused record");
@@ -302,7 +280,7 @@ fn what_cannot_be_read() {
         assert_eq!(refused(read(bytes, 0)), (number, Some(fault)), "{bytes:02X?}");
     }
     let numbers: BTreeSet<u8> = FAULTS.map(|(_, number, _)| number).into();
-    assert_eq!(numbers, BTreeSet::from([1, 2, 3, 4, 5, 9, 10, 11, 15, 16]));
+    assert_eq!(numbers, BTreeSet::from([1, 2, 3, 4, 5, 9, 10, 11, 15]));
 }
 
 #[test]
@@ -366,7 +344,7 @@ fn the_longest_record() {
 }
 
 /// Events with fields out of range, and the number of that whose byte comes first in the record.
-const OUT_OF_RANGE: [(Event<'static>, u8); 24] = [
+const OUT_OF_RANGE: [(Event<'static>, u8); 21] = [
     (Event::PowerOn { address: 128 }, 10),
     (Event::Sample { fan: 0, count: 0 }, 5),
     (Event::Sample { fan: 6, count: 0 }, 5),
@@ -424,9 +402,6 @@ const OUT_OF_RANGE: [(Event<'static>, u8); 24] = [
     (Event::PowerOnPart { address: 127, fans: 0 }, 15),
     (Event::PowerOnPart { address: 0, fans: 4 }, 15),
     (Event::PowerOnPart { address: 0, fans: 5 }, 15),
-    (Event::Temperature { zone: 0, byte: 0 }, 16),
-    (Event::Temperature { zone: 4, byte: 255 }, 16),
-    (Event::Temperature { zone: 255, byte: 1 }, 16),
 ];
 
 #[test]
@@ -467,7 +442,7 @@ fn reasons_with_number_and_words() {
         assert_eq!(Reason::of_number(number), Some(reason));
         assert_eq!((reason.number(), reason.words()), (number, words));
     }
-    let mut others = (23..=255).chain(17..=20).chain([0, 12]);
+    let mut others = (22..=255).chain(16..=20).chain([0, 12]);
     assert!(others.all(|number| Reason::of_number(number).is_none()));
 }
 
@@ -521,11 +496,10 @@ fn the_header_has_the_same_kinds() {
         "COBBLEHARD_WISH = 4",
         "COBBLEHARD_TRANSFER = 5",
         "COBBLEHARD_POWER_ON_PART = 6",
-        "COBBLEHARD_TEMPERATURE = 7",
     ];
     assert_eq!(constants.map(str::trim).collect::<Vec<_>>(), expected);
     let kinds: BTreeSet<u8> = each_kind().map(|(_, record)| record[2]).into();
-    assert_eq!(kinds, (1..=7).collect());
+    assert_eq!(kinds, (1..=6).collect());
 }
 
 #[test]
@@ -730,104 +704,6 @@ fn each_power_on_sets_everything_back() {
     }
 }
 
-// ---- temperatures ----
-
-fn temperature(zone: u8, byte: u8) -> Event<'static> {
-    Event::Temperature { zone, byte }
-}
-
-/// Every zone with every byte, in a buffer of the record's length. A run walks over a good one, before power-on and after it.
-#[test]
-fn every_zone_and_byte() {
-    for (zone, byte) in (0..=255).flat_map(|zone| (0..=255).map(move |byte| (zone, byte))) {
-        let event = temperature(zone, byte);
-        let record = [0x9C, 0x46, 7, 2, zone, byte];
-        let log = [&LOG[..5], &record].concat();
-        let mut out = [0xAA; 6];
-        let written = event.write_to(&mut out);
-        if (1..=3).contains(&zone) {
-            assert_eq!((written, out), (Ok(6), record), "{event:?}");
-            assert_eq!(read(&record, 0), Ok(Some((event, 6))), "{event:?}");
-            for (log, records) in [(&record[..], 1), (&log, 2)] {
-                let outcome = run_into(log, &mut []);
-                let numbers = (outcome.number(), outcome.place, outcome.records);
-                assert_eq!(numbers, (0, log.len(), records), "{event:?}");
-            }
-        } else {
-            assert_eq!((refused(written), out), ((16, None), [0xAA; 6]), "{event:?}");
-            assert_eq!(refused(read(&record, 0)), (16, Some(4)), "{event:?}");
-            assert_eq!(
-                stopped(run_into(&record, &mut [])),
-                (16, Some(4), [0, 0, 0]),
-                "{event:?}"
-            );
-            assert_eq!(stopped(run_into(&log, &mut [])), (16, Some(9), [5, 1, 0]), "{event:?}");
-        }
-    }
-}
-
-/// Temperature samples are walked over, before a power-on and after it, and a zone that is none stops.
-#[test]
-fn a_run_over_temperatures() {
-    let mut log = log_of(&[
-        temperature(1, 0x37), // before any power-on
-        power_on(0x2C),
-        temperature(1, 0x37),
-        send(&[0x30, 0x80]),
-        temperature(2, 0x80),
-        Event::Read {
-            address: 0x2C,
-            count: 1,
-        },
-        part(1),
-        temperature(3, 0xFF),
-    ]);
-    let end = log.len();
-    let (outcome, replies) = run(&log);
-    assert_eq!((outcome.stop, outcome.place, outcome.records), (None, end, 8));
-    assert_eq!(replies, [0xFF]);
-    log.extend([0x9C, 0x46, 7, 2, 4, 0x37]);
-    log.extend(LOG);
-    let (outcome, replies) = run(&log);
-    assert_eq!(stopped(outcome), (16, Some(end + 4), [end, 8, 1]));
-    assert_eq!(replies, [0xFF]);
-    let refusal = outcome.stop.expect("a refusal");
-    assert_eq!(refusal.reason(), Reason::WrongZone);
-    let words = format!("refused with 16, no such zone, at byte {}", end + 4);
-    assert_eq!(refusal.to_string(), words);
-}
-
-/// A chip with temperature samples between all its events shows what it shows without them: a fan spins up and stalls, and a
-/// watch fires that nothing feeds.
-#[test]
-fn temperatures_change_nothing() {
-    let events = [
-        send(&[0x20, 0x60]), // the continuous watch
-        send(&[0x29, 0xFF]),
-        send(&[0x30, 0x80]),
-        Event::Ticks { count: 40 },
-        sample(1, 8191),
-        Event::Wish { fan: 1, drive: 99 },
-        Event::Ticks { count: 279 },
-        Event::Ticks { count: 1 },
-    ];
-    let others = [temperature(1, 0x80), temperature(2, 0x00), temperature(3, 0x7F)];
-    for first in [power_on(0x2C), part(1), part(3)] {
-        let mut plain = vec![first];
-        let mut mixed = [&others[..], &[first], &others].concat();
-        for event in events {
-            plain.push(event);
-            mixed.push(event);
-            mixed.extend(others);
-            for register in (0..=255).step_by(32) {
-                let (with, without) = (shown(&mixed, register, 32), shown(&plain, register, 32));
-                assert_eq!(with, without, "{first:?}, {event:?}, {register:02X}");
-            }
-        }
-        assert_eq!(shown(&mixed, 0x24, 3), [0x83, 0x01, 0x01], "{first:?}");
-    }
-}
-
 // ---- speeds ----
 
 /// Out of range, and what a narrower number would take for one in range.
@@ -961,36 +837,6 @@ fn a_report_over_parts() {
     let report = speeds(&log, 2);
     assert_eq!(ended(&report), (15, Some(end + 5), end, 12));
     assert_eq!(report.fans, expected.map(figures));
-}
-
-/// Temperature samples are walked over and count nowhere; a zone that is none ends the report with the figures so far.
-#[test]
-fn a_report_over_temperatures() {
-    let mut log = log_of(&[
-        temperature(1, 1),
-        power_on(0x2C),
-        temperature(1, 1),
-        sample(1, 2048), // 7864320 / 2048 = 3840
-        temperature(2, 0),
-        temperature(3, 255),
-        sample(1, 1024), // 7680
-    ]);
-    let end = log.len();
-    let first = figures([2, 3840, 7680, 11_520, 0]);
-    let report = speeds(&log, 2);
-    assert_eq!(ended(&report), (0, None, end, 7));
-    assert_eq!(
-        (report.fans[0], &report.fans[1..]),
-        (first, &[Figures::default(); 4][..])
-    );
-    log.extend([0x9C, 0x46, 7, 2, 0, 1]);
-    log.extend(log_of(&[sample(1, 1)]));
-    let report = speeds(&log, 2);
-    assert_eq!(ended(&report), (16, Some(end + 4), end, 7));
-    assert_eq!(
-        (report.fans[0], &report.fans[1..]),
-        (first, &[Figures::default(); 4][..])
-    );
 }
 
 /// No reply is laid, so that none lacks room.

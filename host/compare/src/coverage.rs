@@ -8,7 +8,6 @@ use std::collections::BTreeMap;
 
 mod parts;
 mod speeds;
-mod temperatures;
 
 /// A reply has at most so many bytes.
 const ROOM: usize = 32;
@@ -31,8 +30,7 @@ pub struct Coverage {
     would_have_ended: bool,
 }
 
-/// What is counted by name, but for parts, temperatures and speeds. Numbers, registers, periods and Spin Up settings have names
-/// of their own.
+/// What is counted by name, but for parts and speeds. Numbers, registers, periods and Spin Up settings have names of their own.
 const NAMES: [&str; 101] = [
     // The log
     "sample of fan 0",
@@ -145,13 +143,12 @@ const NAMES: [&str; 101] = [
 impl Coverage {
     /// Nothing happened yet.
     pub fn none() -> Coverage {
-        let numbers = (0..=11).chain([15, 16, 21, 22]);
-        let numbers = numbers.map(|number| format!("number {number}"));
+        let numbers = (0..=11).chain([15, 21]).map(|number| format!("number {number}"));
         let periods = PERIODS.iter().map(|ticks| format!("update after {ticks} ticks"));
         let names = NAMES.iter().chain(&parts::NAMES).chain(&speeds::NAMES);
-        let names = names.chain(&temperatures::NAMES).map(|name| name.to_string());
+        let names = names.map(|name| name.to_string());
         let others = numbers.chain(periods).chain(parts::part_names());
-        let others = others.chain(speeds::setting_names()).chain(temperatures::names());
+        let others = others.chain(speeds::setting_names());
         Coverage {
             happened: names.chain(others).map(|name| (name, 0)).collect(),
             read: [0; 256],
@@ -193,20 +190,18 @@ impl Coverage {
     /// Walks a log as a run does and counts what happens, and again as a report does.
     pub fn add(&mut self, log: &[u8]) {
         self.speeds(log);
-        let (mut chip, mut place, mut last) = (Chip::unpowered(), 0, None);
+        let (mut chip, mut place) = (Chip::unpowered(), 0);
         loop {
             match read(log, place) {
                 Ok(Some((event, next))) => {
-                    self.beside_temperatures(&chip, last, &event);
                     self.event(&mut chip, &event, log);
-                    (place, last) = (next, Some(event));
+                    place = next;
                 }
                 Ok(None) => return self.number(0),
                 Err(Fault { number, .. }) => {
-                    if matches!(number, 5 | 9..=11 | 15 | 16) {
+                    if matches!(number, 5 | 9..=11 | 15) {
                         self.out_of_range(&chip, &log[place..]);
                     }
-                    self.stop_beside_temperatures(last, number);
                     return self.number(number);
                 }
             }
@@ -244,7 +239,7 @@ impl Coverage {
                     self.writes(&before, bytes);
                 }
             }
-            Event::Ticks { .. } | Event::Temperature { .. } => {}
+            Event::Ticks { .. } => {}
         }
     }
 
@@ -308,7 +303,6 @@ impl Coverage {
                 self.count("fan 6", fan == 6);
             }
             (6, &[address, fans]) => self.bad_part(chip, address, fans),
-            (7, &[zone, _]) => self.bad_zone(chip, zone),
             (_, payload) => self.bad_read(chip, payload),
         }
     }

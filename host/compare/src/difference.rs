@@ -137,7 +137,7 @@ fn any_length(chance: &mut Chance) -> Vec<u8> {
 fn any_event<'a>(chance: &mut Chance, bytes: &'a [u8]) -> Event<'a> {
     let address = chance.pick(&[0, 0x2C, 0x7F, 0x80, 0xFF]);
     let fan = chance.pick(&[0, 1, 5, 6, 0xFF]);
-    match chance.below(8) {
+    match chance.below(7) {
         0 => Event::PowerOn { address },
         1 => Event::Ticks {
             count: chance.number() as u16,
@@ -154,10 +154,6 @@ fn any_event<'a>(chance: &mut Chance, bytes: &'a [u8]) -> Event<'a> {
         5 => Event::PowerOnPart {
             address,
             fans: chance.pick(&[0, 1, 2, 3, 4, 5, 0xFF]),
-        },
-        6 => Event::Temperature {
-            zone: chance.pick(&[0, 1, 2, 3, 4, 5, 0xFF]),
-            byte: chance.byte(),
         },
         _ => Event::Read {
             address,

@@ -71,7 +71,7 @@ fn near_records(chance: &mut Chance) -> Vec<u8> {
     for _ in 0..chance.between(1, 6) {
         let length = chance.below(40);
         log.extend(MARK);
-        log.extend([chance.below(10) as u8, chance.below(40) as u8]);
+        log.extend([chance.below(9) as u8, chance.below(40) as u8]);
         log.extend(chance.bytes(length));
     }
     if chance.one_in(4) {
@@ -95,7 +95,7 @@ fn damaged(chance: &mut Chance) -> Vec<u8> {
     }
     let at = chance.pick(&starts);
     let byte = chance.byte();
-    match chance.below(14) {
+    match chance.below(12) {
         0 => log[at] = byte,
         1 => log[at + 1] = byte,
         2 => log[at + 2] = byte,
@@ -104,7 +104,6 @@ fn damaged(chance: &mut Chance) -> Vec<u8> {
         5..=8 => out_of_range(&mut log, at, chance),
         9 => log.insert(chance.between(at, log.len()), byte),
         10 => drop(log.remove(chance.between(at, log.len() - 1))),
-        11 | 12 => drop(log.splice(at..at, near_zone(chance))),
         _ => {
             let at = chance.below(log.len());
             log[at] ^= 1 << chance.below(8);
@@ -113,12 +112,11 @@ fn damaged(chance: &mut Chance) -> Vec<u8> {
     log
 }
 
-/// In place of the record, one of the right layout with a field or two out of their ranges or just within them; at times with
-/// a temperature sample or a wish before it.
+/// In place of the record, one of the right layout with a field or two out of their ranges or just within them.
 fn out_of_range(log: &mut Vec<u8>, at: usize, chance: &mut Chance) {
     let fan = chance.pick(&[0, 1, 5, 6, 0xFF]);
     let byte = chance.byte();
-    let (kind, payload) = match chance.below(9) {
+    let (kind, payload) = match chance.below(8) {
         0 => (1, vec![chance.pick(&[0x7F, 0x80, 0xFF])]),
         1 | 2 => {
             let [low, high] = [chance.pick(&[0x00, 0xFF, byte]), chance.pick(&[0x1F, 0x20, 0xFF])];
@@ -126,24 +124,11 @@ fn out_of_range(log: &mut Vec<u8>, at: usize, chance: &mut Chance) {
         }
         3 => (4, vec![fan, byte]),
         4 | 5 => (6, near_part(chance)),
-        6 => (7, near_zone(chance)[4..].to_vec()),
         _ => (5, near_read(chance)),
     };
     let end = at + 4 + usize::from(log[at + 3]);
     let record = [&[MARK[0], MARK[1], kind, payload.len() as u8], &payload[..]].concat();
-    let before = match chance.below(10) {
-        0 => vec![MARK[0], MARK[1], 7, 2, 2, byte],
-        1 => vec![MARK[0], MARK[1], 4, 2, 2, byte],
-        _ => Vec::new(),
-    };
-    log.splice(at..end, [before, record].concat());
-}
-
-/// A temperature sample of a zone out of range or just within it.
-fn near_zone(chance: &mut Chance) -> Vec<u8> {
-    let byte = chance.byte();
-    let zone = chance.pick(&[0, 0, 1, 3, 4, 4, 5, 0xFF, byte]);
-    vec![MARK[0], MARK[1], 7, 2, zone, byte]
+    log.splice(at..end, record);
 }
 
 /// The payload of a part's power-on, with its address or its number of fans out of range, both, or neither.

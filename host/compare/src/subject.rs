@@ -132,7 +132,6 @@ fn event_of<'a>(event: &model::log::Event, log: &'a [u8]) -> Event<'a> {
             }
         }
         model::log::Event::PowerOnPart { address, fans } => Event::PowerOnPart { address, fans },
-        model::log::Event::Temperature { zone, byte } => Event::Temperature { zone, byte },
     }
 }
 
@@ -157,7 +156,6 @@ fn event_to(event: &Event) -> (model::log::Event, Vec<u8>) {
         Event::Write { address, bytes } => transfer(address, false, bytes),
         Event::Read { address, count } => transfer(address, true, &[count]),
         Event::PowerOnPart { address, fans } => (model::log::Event::PowerOnPart { address, fans }, Vec::new()),
-        Event::Temperature { zone, byte } => (model::log::Event::Temperature { zone, byte }, Vec::new()),
     }
 }
 

@@ -1,8 +1,7 @@
 //! Traffic: records laid as document 01 says, by its figures, so that the things which its rules speak of happen.
 //!
 //! A log is a row of scenes. Half of them begin with a power-on, so that they go as meant; the others meet whatever the scenes
-//! before them left: a lock, a loop, a spin-up, a watch. One power-on in three is that of a part with fewer fans. Temperature
-//! samples, which nobody takes, stand before any record now and then.
+//! before them left: a lock, a loop, a spin-up, a watch. One power-on in three is that of a part with fewer fans.
 use crate::chance::Chance;
 
 pub const MARK: [u8; 2] = [0x9C, 0x46];
@@ -16,8 +15,6 @@ const LARGEST_SAMPLE: usize = 8191;
 const PARTS: [usize; 3] = [1, 2, 3];
 /// As many samples a fan as a report takes.
 pub const MOST_SAMPLES: usize = 65_535;
-/// One record in so many has a temperature sample before it.
-const TEMPERATURE_ONE_IN: usize = 20;
 
 /// Steps that the rules or their slips turn on; the two high bits of Max Step do not count.
 const STEPS: [u8; 9] = [0, 1, 16, 63, 0x40, 0x41, 0x50, 0x7F, 0xFF];
@@ -93,13 +90,6 @@ impl<'a> Traffic<'a> {
 
 impl Traffic<'_> {
     pub fn record(&mut self, kind: u8, payload: &[u8]) {
-        if self.chance.one_in(TEMPERATURE_ONE_IN) {
-            self.temperature();
-        }
-        self.lay(kind, payload);
-    }
-
-    fn lay(&mut self, kind: u8, payload: &[u8]) {
         self.starts.push(self.log.len());
         self.log.extend(MARK);
         self.log.extend([kind, payload.len() as u8]);
@@ -127,13 +117,6 @@ impl Traffic<'_> {
         } else {
             self.record(6, &[self.address, fans as u8]);
         }
-    }
-
-    /// A temperature sample of any zone.
-    fn temperature(&mut self) {
-        let (zone, any) = (self.chance.pick(&[1, 2, 3]), self.chance.byte());
-        let byte = self.chance.pick(&[any, any, 0x00, 0x7F, 0x80]);
-        self.lay(7, &[zone, byte]);
     }
 
     fn ticks(&mut self, count: usize) {
@@ -220,7 +203,7 @@ impl Traffic<'_> {
 
     /// Any event, most of them taken.
     fn small_event(&mut self) {
-        match self.chance.below(13) {
+        match self.chance.below(12) {
             0 => {
                 let count = self.some_ticks();
                 self.ticks(count);
@@ -248,7 +231,6 @@ impl Traffic<'_> {
                 let register = self.chance.pick(&[0x24, 0x25, 0x26, 0x27]);
                 self.show(register, 1);
             }
-            10 => self.temperature(),
             _ => self.any_write(),
         }
     }
@@ -441,13 +423,12 @@ impl Traffic<'_> {
         self.quick_ramp(at);
         let before = self.chance.below(WATCH_TICKS);
         self.ticks(before);
-        match self.chance.below(7) {
+        match self.chance.below(6) {
             0 => self.set(at.base + SETTING, 0),
             1 => self.set(at.base + CONFIGURATION_1, 0xA8),
             2 => self.set(at.base + CONFIGURATION_1, 0x28),
             3 => self.set(CONFIGURATION, 0x40),
             4 => self.small_event(),
-            5 => self.temperature(),
             _ => self.sample(at.fan, LARGEST_SAMPLE),
         }
         self.over_the_edge(at, WATCH_TICKS - before);
@@ -465,12 +446,11 @@ impl Traffic<'_> {
         }
         let before = self.chance.between(1, WATCH_TICKS - 1);
         self.ticks(before);
-        match self.chance.below(11) {
+        match self.chance.below(10) {
             0 => self.write(&[]),
             1 => self.write(&[0x30]),
             2 => self.read(1),
             3 => self.elsewhere(),
-            9 => self.temperature(),
             4 => self.sample(at.fan, LARGEST_SAMPLE),
             5 => self.set(CONFIGURATION, 0x40),
             6 => self.power_on(),
@@ -735,22 +715,14 @@ impl Traffic<'_> {
                 self.power_on_with(fans);
                 self.sample(at.fan, count);
                 self.bring_back(at);
-                self.one_more(at, count);
+                self.sample(at.fan, count);
             }
             _ => {
                 self.small_event();
-                (0..2).for_each(|_| self.one_more(at, count));
+                (0..2).for_each(|_| self.sample(at.fan, count));
                 self.small_event();
             }
         }
-    }
-
-    /// One sample more of a fan, often right behind a temperature sample.
-    fn one_more(&mut self, at: FanAt, count: usize) {
-        if self.chance.one_in(2) {
-            self.temperature();
-        }
-        self.sample(at.fan, count);
     }
 
     /// The largest sample that is no stall, the smallest that is one, or any.

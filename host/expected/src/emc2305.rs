@@ -6,7 +6,6 @@ mod parts;
 mod refusals;
 mod registers;
 mod status;
-mod temperatures;
 pub mod traffic;
 mod transfers;
 mod watches;
@@ -48,7 +47,5 @@ pub fn script() -> Script {
     traffic::cases(&mut bench);
     parts::cases(&mut bench);
     traffic::part_cases(&mut bench);
-    temperatures::cases(&mut bench);
-    traffic::temperature_cases(&mut bench);
     bench.script
 }

@@ -1,7 +1,5 @@
 //! The cases of the program eventlog_test: reader, writer and range test.
 
-mod temperatures;
-
 use crate::chance::Chance;
 use crate::events::{clock, name, part_on, power_on, sample, send, ticks, wish, words, LARGEST, WRAPPING};
 use crate::script::{byte, bytes, code, hex_or, rows, Script};
@@ -27,9 +25,7 @@ pub fn script() -> Script {
     pair_write_cases(&mut script);
     part_write_cases(&mut script);
     room_cases(&mut script);
-    temperatures::cases(&mut script);
-    damaged_cases(&mut script, 2305, 400, &good_records());
-    damaged_cases(&mut script, 2300, 100, &temperatures::good_records());
+    damaged_cases(&mut script);
     script
 }
 
@@ -113,9 +109,8 @@ fn write_case(script: &mut Script, event: &Event, log: &[u8], room: u8) {
     script.add(b'w', &[&[room], &fields(event)[..], log].concat(), &line);
 }
 
-/// An event in six bytes: kind, a small field, a count in two, a place, a length. A part's number of fans and a temperature
-/// are the count's low byte. A transfer that reads has 13 for its kind, which is no record's: 8 and those after it are free for
-/// kinds to come.
+/// An event in six bytes: kind, a small field, a count in two, a place, a length. A part's number of fans is the count's low
+/// byte. A transfer that reads has 13 for its kind, which is no record's: 7 and those after it are free for kinds to come.
 fn fields(event: &Event) -> [u8; 6] {
     match *event {
         Event::PowerOn { address } => [1, address, 0, 0, 0, 0],
@@ -129,7 +124,6 @@ fn fields(event: &Event) -> [u8; 6] {
             length,
         } => [if read { 13 } else { 5 }, address, 0, 0, code(place), code(length)],
         Event::PowerOnPart { address, fans } => [6, address, fans, 0, 0, 0],
-        Event::Temperature { zone, byte } => [7, zone, byte, 0, 0, 0],
     }
 }
 
@@ -187,7 +181,7 @@ fn sent() -> Vec<u8> {
 fn reading_cases(script: &mut Script) {
     // the document's examples, and its reading order
     for log in
-        rows("9C, 9D, 9C46 02 09, 9C46 05 14 58, 9C 47, 46, 9C46 08, 9C46 08 01, 9D46 08 01, 9C46 06, 9C46 06 01")
+        rows("9C, 9D, 9C46 02 09, 9C46 05 14 58, 9C 47, 46, 9C46 07, 9C46 07 01, 9D46 07 01, 9C46 06, 9C46 06 01")
     {
         read_case(script, &log, 0);
     }
@@ -211,7 +205,7 @@ fn cut_cases(script: &mut Script) {
     let after = rows("9C46 05 02 59 01, 9C46 06 02 2C 02");
     // records that are refused once enough of them is there
     let refused = rows(
-        "9D46 01 01 2C, 9C47 01 01 2C, 9D47 01 01 2C, 9C46 08 01 2C, 9C46 01 02 2C 00, 9C46 01 01 80, \
+        "9D46 01 01 2C, 9C47 01 01 2C, 9D47 01 01 2C, 9C46 07 01 2C, 9C46 01 02 2C 00, 9C46 01 01 80, \
          9C46 06 01 2C, 9C46 06 02 80 02, 9C46 06 02 80 05, 9C46 06 02 2C 05, 9C46 03 03 00 00 20, 9C46 03 03 01 00 20, 9C46 04 02 06 00, 9C46 05 01 59, 9C46 05 02 59 00, \
          9C46 05 03 59 01 01, 9C46 05 03 59 00 00",
     );
@@ -233,7 +227,7 @@ fn head_cases(script: &mut Script) {
     ] {
         vary_case(script, &bytes(record), at);
     }
-    for kind in 1..=7 {
+    for kind in 1..=6 {
         vary_case(script, &headed(&format!("9C46 0{kind} 00"), 2, 33), 3);
     }
     vary_case(script, &headed("9C46 05 00", 3, 33), 3);
@@ -334,7 +328,7 @@ fn edge_cases(script: &mut Script) {
 /// What is no field, behind other records: the place goes on with theirs.
 fn behind_cases(script: &mut Script) {
     for rest in rows(
-        "9C, 9C46, 9C46 01, 9C46 06, 9D, 9C47, 9D47, 9C9D 01 01 80, 9C46 00 00, 9C46 08 01 2C, 9C46 01 02 80 00, \
+        "9C, 9C46, 9C46 01, 9C46 06, 9D, 9C47, 9D47, 9C9D 01 01 80, 9C46 00 00, 9C46 07 01 2C, 9C46 01 02 80 00, \
          9C46 06 02, 9C46 06 02 80, 9C46 06 01 80, 9C46 06 03 2C 05 00, 9C46 02 09, 9C46 05 00, 9C46 05 22, 9C46 03 03 00, 9C46 05 14 58, 9C46 05 02 59, 9C46 05 03 59 00",
     ) {
         let before = bytes(EXAMPLE);
@@ -490,11 +484,11 @@ fn damage(log: &mut Vec<u8>, chance: &Chance) {
     }
 }
 
-/// So many good records, damaged at up to two places, with up to five bytes behind them.
-fn damaged_cases(script: &mut Script, seed: u64, count: usize, good: &[Vec<u8>]) {
-    let chance = Chance::new(seed);
-    for _ in 0..count {
-        let mut log = chance.among(good);
+/// Good records, damaged at up to two places, with up to five bytes behind them.
+fn damaged_cases(script: &mut Script) {
+    let (chance, good) = (Chance::new(2305), good_records());
+    for _ in 0..400 {
+        let mut log = chance.among(&good);
         for _ in 0..chance.below(3) {
             damage(&mut log, &chance);
         }

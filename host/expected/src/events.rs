@@ -27,11 +27,6 @@ pub fn part_on(address: u8, fans: u8) -> Event {
     Event::PowerOnPart { address, fans }
 }
 
-/// A temperature sample.
-pub fn temperature(zone: u8, byte: u8) -> Event {
-    Event::Temperature { zone, byte }
-}
-
 pub fn ticks(count: u16) -> Event {
     Event::Ticks { count }
 }
@@ -74,7 +69,6 @@ pub fn name(event: &Event) -> &'static str {
         Event::Transfer { read: false, .. } => "send",
         Event::Transfer { read: true, .. } => "clock",
         Event::PowerOnPart { .. } => "part-on",
-        Event::Temperature { .. } => "temperature",
     }
 }
 
@@ -90,7 +84,6 @@ pub fn words(event: &Event) -> String {
             address, place, length, ..
         } => format!("{name} {address} {place} {length}"),
         Event::PowerOnPart { address, fans } => format!("{name} {address} {fans}"),
-        Event::Temperature { zone, byte } => format!("{name} {zone} {byte}"),
     }
 }
 

@@ -5,11 +5,11 @@ use crate::chance::Chance;
 use crate::emc2305::traffic::any_sent;
 use crate::emc2305::{at, CONFIGURATION, FANS, HOME, LOCK};
 use crate::events;
-use crate::logs::{clock, part_on, power_on, power_on_at, sample, send, send_to, temperature, ticks};
+use crate::logs::{clock, part_on, power_on, power_on_at, sample, send, send_to, ticks};
 use crate::logs::{example, random_logs, short, sprinkled, stops, traffic, truncations, unpowered, written_logs};
 use crate::script::{bytes, hex_or, Script};
 use model::chip::{CONFIGURATION_1, SETTING};
-use model::log::{read, write, Event, ADDRESS, BYTES, COUNT, FAN, NUMBER_OF_FANS, UNKNOWN_KIND, ZONE};
+use model::log::{read, write, Event, ADDRESS, BYTES, COUNT, FAN, NUMBER_OF_FANS, UNKNOWN_KIND};
 use model::replay::run;
 use model::speeds::{rpm, rpm_by_high_byte, speeds as report};
 use std::collections::BTreeSet;
@@ -45,7 +45,7 @@ pub fn script() -> Script {
     for log in logs {
         read_cases(&mut script, &log);
     }
-    for kind in [0, 1, 2, 3, 4, 5, 6, 7, 8, 255] {
+    for kind in [0, 1, 2, 3, 4, 5, 6, 7, 255] {
         all_write_cases(&mut script, kind);
     }
     script
@@ -147,14 +147,12 @@ fn speeds_answer(poles: u64, room: usize, log: &[u8]) -> String {
 }
 
 /// Every fan in a way of its own: with its Configuration 1 written in a block, or with the loop, which the watch turns off,
-/// or behind a lock, which does not hold it; with zero counts alone; over several power-ons. 6, 7 and 22 are among them.
+/// or behind a lock, which does not hold it; with zero counts alone; over several power-ons. 6 and 7 are among them.
 fn measured() -> Vec<u8> {
     [
         sample(1, 1),
-        temperature(1, 1),
         send(&[at(1, CONFIGURATION_1), 0x78]),
         power_on(),
-        temperature(1, 1),
         sample(1, 1),
         sample(1, 0),
         sample(1, 8191),
@@ -171,7 +169,6 @@ fn measured() -> Vec<u8> {
         sample(3, 8190),
         clock(32),
         sample(3, 7),
-        temperature(3, 0).repeat(2),
         sample(4, 0).repeat(2),
         sample(5, 7000),
         send(&[at(5, CONFIGURATION_1), 0x00]),
@@ -228,7 +225,6 @@ fn any_measure(chance: &Chance) -> Vec<u8> {
         0u8..10 => sample(fan, chance.among(&[0, 1, 2, 3, 31, 32, 8191, chance.below(8192)])),
         10..14 => send(&[at(fan, CONFIGURATION_1), chance.below(256)]),
         14..17 => send_to(chance.among(&[HOME, HOME, HOME + 1]), &any_sent(chance)),
-        17 if chance.one_in(2) => temperature(chance.among(&[1, 2, 3]), chance.below(256)),
         17 => ticks(chance.below(400)),
         18 => clock(32),
         19 if chance.one_in(2) => part_on(chance.among(&[1, 2, 3])),
@@ -237,8 +233,7 @@ fn any_measure(chance: &Chance) -> Vec<u8> {
 }
 
 /// As many samples as a report takes, and one more: of zero counts alone, of both sorts, of all fans at once; and where those
-/// before power-on or of an absent fan are refused, so that there are not too many; and of a fan that is absent for a while,
-/// and one with temperature samples where one more of its own would be.
+/// before power-on or of an absent fan are refused, so that there are not too many; and of a fan that is absent for a while.
 fn full_logs() -> Vec<Vec<u8>> {
     let zeros = [power_on(), sample(3, 0).repeat(MOST_SAMPLES), sample(3, 9)].concat();
     let both = [sample(5, 0), sample(5, 8191), sample(5, 1)].concat();
@@ -261,8 +256,7 @@ fn full_logs() -> Vec<Vec<u8>> {
     ]
     .concat();
     let back = [&gone[..], &sample(3, 9)].concat();
-    let warm = [&zeros[..zeros.len() - 7], &temperature(3, 9).repeat(2), &sample(3, 9)].concat();
-    [vec![zeros, both, all, early, absent, gone, back, warm], fastest_logs()].concat()
+    [vec![zeros, both, all, early, absent, gone, back], fastest_logs()].concat()
 }
 
 /// The greatest total that there is, and behind it no sample, one, one of another fan and one after a power-on, and one that
@@ -339,7 +333,6 @@ fn event_numbers(event: &Event) -> String {
             length,
         } => format!("5 {address} {} {place} {length}", u8::from(read)),
         Event::PowerOnPart { address, fans } => format!("6 {address} {fans} 0 0"),
-        Event::Temperature { zone, byte } => format!("7 {zone} {byte} 0 0"),
     }
 }
 
@@ -352,7 +345,7 @@ fn all_write_cases(script: &mut Script, kind: u8) {
     } else {
         vec![vec![], vec![1], vec![0; 40]]
     };
-    for unit in [0, 1, 2, 3, 4, 5, 6, 127, 128, 255] {
+    for unit in [0, 1, 5, 6, 127, 128, 255] {
         for value in [0, 1, 2, 3, 4, 5, 255, 256, 257, 8191, 8192, 65535] {
             for bytes in &sent {
                 write_cases(script, kind, unit, value, bytes);
@@ -374,7 +367,7 @@ fn sent() -> Vec<Vec<u8>> {
 /// No room, one byte too few, the record's own length, and plenty.
 fn write_cases(script: &mut Script, kind: u8, unit: u8, value: u16, sent: &[u8]) {
     let length = match kind {
-        2 | 4 | 6 | 7 => 6,
+        2 | 4 | 6 => 6,
         3 => 7,
         5 => 5 + sent.len(),
         _ => 5,
@@ -400,9 +393,9 @@ fn write_answer(kind: u8, unit: u8, value: u16, room: usize, sent: &[u8]) -> Str
     format!("{numbers} {}", hex_or(".", &buffer))
 }
 
-/// The event that numbers stand for; 3 for an unknown kind. A drive, a direction, a number of fans or a temperature that is no
-/// byte has the number of its byte in a record, where no earlier byte is at fault: a drive 9, that of what follows the fan; a
-/// direction 10, as it shares the address byte; a number of fans 15; a temperature 9, as a drive.
+/// The event that numbers stand for; 3 for an unknown kind. A drive, a direction or a number of fans that is no byte has the
+/// number of its byte in a record, where no earlier byte is at fault: a drive 9, that of what follows the fan; a direction 10,
+/// as it shares the address byte; a number of fans 15.
 fn event_of_numbers(kind: u8, unit: u8, value: u16, length: usize) -> Result<Event, u8> {
     match (kind, value) {
         (1, _) => Ok(events::power_on(unit)),
@@ -418,9 +411,6 @@ fn event_of_numbers(kind: u8, unit: u8, value: u16, length: usize) -> Result<Eve
         (6, 0..=255) => Ok(events::part_on(unit, value as u8)),
         (6, _) if unit > 127 => Err(ADDRESS),
         (6, _) => Err(NUMBER_OF_FANS),
-        (7, 0..=255) => Ok(events::temperature(unit, value as u8)),
-        (7, _) if !(1..=3).contains(&unit) => Err(ZONE),
-        (7, _) => Err(COUNT),
         _ => Err(UNKNOWN_KIND),
     }
 }

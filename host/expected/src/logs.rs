@@ -35,10 +35,6 @@ pub fn wish(fan: u8, drive: u8) -> Vec<u8> {
     record(&events::wish(fan, drive), &[])
 }
 
-pub fn temperature(zone: u8, byte: u8) -> Vec<u8> {
-    record(&events::temperature(zone, byte), &[])
-}
-
 pub fn send(sent: &[u8]) -> Vec<u8> {
     send_to(HOME, sent)
 }
@@ -62,7 +58,7 @@ pub fn example() -> Vec<u8> {
     bytes("9C 46 01 01 2C 9C 46 05 03 58 30 80 9C 46 05 02 59 01")
 }
 
-/// Each kind of record but that of parts, block reads and writes, 6, 7 and 22 among them.
+/// Each kind of record, block reads and writes, 6 and 7 among them.
 pub fn short() -> Vec<u8> {
     [
         ticks(1),
@@ -72,7 +68,6 @@ pub fn short() -> Vec<u8> {
         clock(4),
         sample(5, 8191),
         wish(2, 255),
-        temperature(3, 0x80),
         clock_at(HOME + 1, 2),
         send(&[]),
     ]
@@ -92,20 +87,18 @@ fn ones(head: &str, count: usize) -> Vec<Vec<u8>> {
 /// Endings by the log's end, the mark, the kind and the length.
 fn head_endings() -> Vec<(u8, Vec<Vec<u8>>)> {
     let cut = rows(
-        "9C, 9C46, 9C46 01, 9C46 07, 9C46 08, 9C46 01 01, 9C46 07 02, 9C46 07 02 04, 9C46 06 02, 9C46 06 02 80, \
-         9C46 02 02, 9C46 02 02 2C, 9C46 03 03 00 FF, 9C46 04 02 06, 9C46 05 01, 9C46 05 14 58, 9C46 05 02 59, 9C46 05 03 59 00, 9C46 05 21",
+        "9C, 9C46, 9C46 01, 9C46 07, 9C46 01 01, 9C46 06 02, 9C46 06 02 80, 9C46 02 02, 9C46 02 02 2C, 9C46 03 03 00 FF, 9C46 04 02 06, \
+         9C46 05 01, 9C46 05 14 58, 9C46 05 02 59, 9C46 05 03 59 00, 9C46 05 21",
     );
     let marks = rows(
         "9D, 00, 46, FF, 9C47, 9D46, 469C, 9C9C, 9D46 01 01 2C, 9C47 01 01 2C, 9C9C 46 01 01 2C, 9D46 07 00, 9C47 01",
     );
     let kinds = rows(
-        "9C46 00 00, 9C46 00 01 2C, 9C46 08 00, 9C46 08 02 01 14, 9C46 08 03 01 19 00, 9C46 09 FF, 9C46 FF 00, \
-         9C46 9C 46, 9C46 81 01 2C, 9C46 87 02 01 14",
+        "9C46 00 00, 9C46 00 01 2C, 9C46 07 00, 9C46 07 02 2C 02, 9C46 07 FF, 9C46 FF 00, 9C46 9C 46, 9C46 81 01 2C",
     );
     let lengths = rows(
         "9C46 01 00, 9C46 01 02 2C 00, 9C46 01 FF, 9C46 02 01 00, 9C46 02 03 00 00 00, 9C46 02 09, 9C46 03 02 01 00, \
-         9C46 03 04 01 00 00 00, 9C46 04 01 01, 9C46 04 03 01 00 00, 9C46 06 00, 9C46 06 01 80, 9C46 06 03 2C 02 00, \
-         9C46 07 00, 9C46 07 01 04, 9C46 07 03 01 14 00, 9C46 07 FF, 9C46 05 00",
+         9C46 03 04 01 00 00 00, 9C46 04 01 01, 9C46 04 03 01 00 00, 9C46 06 00, 9C46 06 01 80, 9C46 06 03 2C 02 00, 9C46 05 00",
     );
     let after_lengths = rows("9C46 05 22, 9C46 05 FF 59 01");
     vec![
@@ -129,14 +122,12 @@ fn field_endings() -> Vec<(u8, Vec<Vec<u8>>)> {
         "9C46 05 01 59, 9C46 05 01 FF, 9C46 05 03 59 01 01, 9C46 05 03 59 00 00, 9C46 05 04 5B 21 01 01, \
          9C46 05 02 59 00, 9C46 05 02 59 21, 9C46 05 02 59 FF, 9C46 05 02 5B 00",
     );
-    let zones = rows("9C46 07 02 00 00, 9C46 07 02 FF FF, 9C46 07 02 05 80, 9C46 07 02 04 14");
     vec![
         (5, fans),
         (9, counts),
         (10, addresses),
         (11, [ones("9C46 05 21 59", 32), reads].concat()),
         (15, numbers),
-        (16, zones),
     ]
 }
 
@@ -162,7 +153,6 @@ pub fn unpowered() -> Vec<u8> {
         ticks(65535),
         sample(1, 0),
         wish(5, 9),
-        temperature(1, 20),
         send(&[]),
         send(&[0x30, 0x80]),
         clock(1),
@@ -225,33 +215,6 @@ pub fn parts() -> Vec<u8> {
     log
 }
 
-/// Temperature samples of each zone before power-on, behind it and among what moves fans, bits and the watch, on five fans and
-/// on each part: each is refused, and the replies are those of a log without it.
-pub fn temperatures() -> Vec<u8> {
-    let samples = || [1, 2, 3].map(|zone| temperature(zone, 0x80 - zone)).concat();
-    let mut log = samples();
-    for start in [power_on(), part_on(1), part_on(2), part_on(3), power_on()] {
-        log.extend([start, samples()].concat());
-        for event in [
-            send(&[at(1, SETTING), 0x80]),
-            ticks(40),
-            sample(1, 8191),
-            wish(1, 9),
-            send(&[STATUS]),
-            clock(4),
-            clock_at(HOME + 1, 1),
-            send(&[CONFIGURATION, 0x60]),
-            ticks(319),
-            ticks(1),
-            send(&[STATUS]),
-            clock(1),
-        ] {
-            log.extend([event, samples()].concat());
-        }
-    }
-    log
-}
-
 // ---- logs that look random ----
 
 fn any_address(chance: &Chance) -> u8 {
@@ -294,9 +257,8 @@ fn any_record(chance: &Chance) -> Vec<u8> {
         }
         40..66 => any_clock(chance),
         66..82 => any_ticks(chance),
-        82..89 => any_sample(chance),
-        89..94 => wish(chance.among(&FANS), chance.below(256)),
-        94 | 95 => temperature(chance.among(&[1, 2, 3]), chance.below(256)),
+        82..90 => any_sample(chance),
+        90..96 => wish(chance.among(&FANS), chance.below(256)),
         96 => part_on(chance.among(&[1, 2, 3])),
         _ => power_on_at(chance.among(&[HOME, HOME, chance.below(128)])),
     }
@@ -323,7 +285,7 @@ fn head(kind: u8, length: u8) -> Vec<u8> {
 pub fn sprinkled(chance: &Chance, length: usize) -> Vec<u8> {
     let mut log = power_on();
     while log.len() < length {
-        let kind = chance.below(9);
+        let kind = chance.below(8);
         let n = chance.among(&[0, 1, 2, 3, chance.below(40)]);
         let head = head(kind, n);
         let whole = any_record(chance);
@@ -358,7 +320,6 @@ pub fn written_logs() -> Vec<Vec<u8>> {
         other_addresses(),
         sweep(),
         parts(),
-        temperatures(),
         [power_on(), send(&[CONFIGURATION, 0x60]), ticks(65535), clock(32)].concat(),
     ];
     for before in [vec![], power_on(), example(), unpowered()] {
@@ -376,7 +337,7 @@ pub fn random_logs(seed: u64, count: usize) -> Vec<(String, Vec<u8>)> {
         add("damaged", damaged(&chance, 1 + chance.below::<usize>(12)));
         add("sprinkled", sprinkled(&chance, chance.below(120)));
         add("noise", chance.bytes(chance.below(24)));
-        let head = head(1 + chance.below::<u8>(7), chance.among(&[1, 2, 2, 3, chance.below(36)]));
+        let head = head(1 + chance.below::<u8>(6), chance.among(&[1, 2, 2, 3, chance.below(36)]));
         let behind = chance.bytes(chance.among(&[1, 2, 3, 33, chance.below(40)]));
         add("noise behind a head", [head, behind].concat());
     }

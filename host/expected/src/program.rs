@@ -5,7 +5,7 @@ use crate::chance::Chance;
 use crate::events::LONGEST_RECORD;
 use crate::logs::{
     clock, example, other_addresses, part_on, parts, power_on, power_on_at, random_logs, sample, send, short, stops,
-    sweep, temperature, temperatures, ticks, traffic, truncations, unpowered, wish,
+    sweep, ticks, traffic, truncations, unpowered, wish,
 };
 use crate::script::{bytes, hex, Script};
 use crate::windows::{damaged, filler, in_pieces, WINDOW};
@@ -39,17 +39,9 @@ fn add(script: &mut Script, name: &str, log: &[u8]) {
 
 // ---- short logs ----
 
-/// A name, a log and its listing.
-type Listed = (&'static str, Vec<u8>, &'static str);
-
-/// Logs with their listings.
-fn written_out() -> Vec<Listed> {
-    [refused_at_once(), walked()].concat()
-}
-
-/// Document 01's examples, and records that are refused by themselves.
-fn refused_at_once() -> Vec<Listed> {
-    vec![
+/// Document 01's examples and a few others, with their listings.
+fn written_out() -> [(&'static str, Vec<u8>, &'static str); 16] {
+    [
         ("document 01's example", example(), "0 0\n5 0\n12 0 FF\nend 18\n"),
         ("no bytes", vec![], "end 0\n"),
         ("9C", bytes("9C"), "0 1\nstop 0\n"),
@@ -62,24 +54,7 @@ fn refused_at_once() -> Vec<Listed> {
         ("33 bytes clocked", bytes("9C 46 05 02 59 21"), "0 11\nstop 0\n"),
         ("five fans by kind 6", bytes("9C 46 06 02 2C 05"), "0 15\nstop 0\n"),
         ("address 128 and no fans", bytes("9C 46 06 02 80 00"), "0 10\nstop 0\n"),
-        ("kind 8", bytes("9C 46 08 02 01 14"), "0 3\nstop 0\n"),
-        ("zone 0", bytes("9C 46 07 02 00 14"), "0 16\nstop 0\n"),
-    ]
-}
-
-/// Logs of several records, with 6, 7, 21 and 22 among them.
-fn walked() -> Vec<Listed> {
-    vec![
-        (
-            "zone 4",
-            [power_on(), bytes("9C 46 07 02 04 80")].concat(),
-            "0 0\n5 16\nstop 5\n",
-        ),
-        (
-            "temperatures",
-            [temperature(3, 20), example(), temperature(1, 0x80), clock(1)].concat(),
-            "0 6\n6 0\n11 0\n18 0 FF\n24 22\n30 0 FF\nend 36\n",
-        ),
+        ("kind 7", bytes("9C 46 07 02 2C 02"), "0 3\nstop 0\n"),
         (
             "a two-fan part",
             [
@@ -121,7 +96,6 @@ fn short_logs(script: &mut Script) {
     add(script, "other_addresses", &other_addresses());
     add(script, "sweep", &sweep());
     add(script, "parts", &parts());
-    add(script, "temperatures among other records", &temperatures());
     for (name, log) in random_logs(2305, 6) {
         add(script, &name, &log);
     }
@@ -135,13 +109,12 @@ fn longest_writes() -> Vec<u8> {
     [send(&sent), send(&[0x30]), clock(32)].concat().repeat(2)
 }
 
-/// What stands across the window's edge; replies behind it show all but the wish and the temperature.
+/// What stands across the window's edge; replies behind it show all but the wish.
 fn across() -> [(&'static str, Vec<u8>); 3] {
     let every_kind = [
         sample(5, 4660),
         ticks(320),
         wish(1, 9),
-        temperature(1, 20),
         send(&[0x70]),
         clock(16),
         power_on(),

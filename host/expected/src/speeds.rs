@@ -8,7 +8,7 @@ use crate::emc2305::{at, FANS, HOME};
 use crate::events::LONGEST_RECORD;
 use crate::logs::{
     clock, example, other_addresses, part_on, parts, power_on, power_on_at, random_logs, sample, send, send_to, stops,
-    sweep, temperature, temperatures, ticks, traffic, truncations, unpowered, wish,
+    sweep, ticks, traffic, truncations, unpowered, wish,
 };
 use crate::script::{bytes, hex, Script};
 use crate::windows::{damaged, filler, in_pieces, WINDOW};
@@ -24,7 +24,6 @@ pub fn script() -> Script {
     short_logs(&mut script);
     every_setting(&mut script);
     limits(&mut script);
-    limits_beside_temperatures(&mut script);
     long_logs(&mut script);
     script
 }
@@ -98,36 +97,9 @@ fn on_parts() -> Vec<u8> {
         .concat()
 }
 
-/// Temperature samples before power-on and behind it, with the zone of a fan that is sampled.
-fn warm() -> Vec<u8> {
-    [
-        temperature(1, 20),
-        power_on(),
-        temperature(1, 1),
-        sample(1, 8191),
-        temperature(1, 0),
-        sample(1, 0),
-        temperature(2, 0x80),
-    ]
-    .concat()
-}
-
-/// A name, an argument, a log and its report.
-type Reported = (&'static str, &'static str, Vec<u8>, String);
-
-/// Temperature samples with their reports: of 7864320 over 8191.
-fn warm_written_out() -> Vec<Reported> {
-    let lines = "1 1 960 960 960 1; 2 0 0 0 0 0; 3 0 0 0 0 0; 4 0 0 0 0 0; 5 0 0 0 0 0";
-    let damaged = [warm(), bytes("9C 46 07 02 04 14"), sample(1, 1)].concat();
-    vec![
-        ("temperatures", "2", warm(), format!("{lines}; end 43")),
-        ("zone 4", "2", damaged, format!("{lines}; stop 43 16")),
-    ]
-}
-
 /// Logs with their reports. The speed of the default fan at two poles is 7864320 over the count, that of m 8 and nine
 /// edges 62914560 over it.
-fn written_out() -> Vec<Reported> {
+fn written_out() -> Vec<(&'static str, &'static str, Vec<u8>, String)> {
     let none = "1 0 0 0 0 0; 2 0 0 0 0 0; 3 0 0 0 0 0; 4 0 0 0 0 0; 5 0 0 0 0 0";
     let few_lines = "1 4 2999 62914560 71908353 1; 2 0 0 0 0 1; 3 0 0 0 0 0; 4 0 0 0 0 0; 5 1 960 960 960 0";
     vec![
@@ -166,7 +138,7 @@ fn written_out() -> Vec<Reported> {
 
 /// Logs that fit in the window.
 fn short_logs(script: &mut Script) {
-    for (name, argument, log, _) in [written_out(), warm_written_out()].concat() {
+    for (name, argument, log, _) in written_out() {
         add(script, name, argument, &log);
     }
     for argument in [
@@ -183,10 +155,6 @@ fn short_logs(script: &mut Script) {
     add(script, "unpowered", "1", &unpowered());
     add(script, "other addresses", "1", &other_addresses());
     add(script, "sweep", "1", &sweep());
-    add(script, "temperatures among other records", "1", &temperatures());
-    for log in truncations(&warm()) {
-        add(script, &format!("temperatures, cut at {}", log.len()), "4", log);
-    }
     for argument in ["1", "2", "3", "4"] {
         add(script, &format!("parts, {argument} poles"), argument, &parts());
     }
@@ -300,28 +268,6 @@ fn limits(script: &mut Script) {
     add(script, "65,536 samples of any count", "4", &any);
 }
 
-/// Temperature samples are no samples of a fan: none of them comes to the limit, before it or at it.
-fn limits_beside_temperatures(script: &mut Script) {
-    let full = [power_on(), sample(1, 8191).repeat(MOST_SAMPLES)].concat();
-    let many = temperature(1, 1).repeat(MOST_SAMPLES + 1);
-    for (name, log) in [
-        (
-            "a temperature behind a full fan",
-            [&full[..], &temperature(1, 1), &temperature(3, 0)].concat(),
-        ),
-        (
-            "a temperature and a sample behind a full fan",
-            [&full[..], &temperature(1, 1), &sample(1, 1)].concat(),
-        ),
-        (
-            "65,536 temperatures and a sample",
-            [power_on(), many, sample(1, 1)].concat(),
-        ),
-    ] {
-        add(script, name, "1", &log);
-    }
-}
-
 // ---- logs that are longer than the window ----
 
 /// Samples that begin up to the longest record's length before the window's edge, damage there, logs of several windows,
@@ -360,11 +306,11 @@ fn long_log() -> Vec<u8> {
 
 #[cfg(test)]
 mod tests {
-    use super::{few, list, packed, poles, power_on, sample, stops, warm_written_out, written_out};
+    use super::{few, list, packed, poles, power_on, sample, stops, written_out};
 
     #[test]
     fn the_model_reports_what_is_written_out() {
-        for (name, argument, log, report) in [written_out(), warm_written_out()].concat() {
+        for (name, argument, log, report) in written_out() {
             let text = report.replace("; ", "\n") + "\n";
             assert_eq!(list(&log, poles(argument.as_bytes())), text, "{name}");
         }

@@ -1,6 +1,6 @@
 //! The chip: registers, drives, spin-up, tachometer and watchdog.
 
-use crate::log::{check, Event, ABSENT_FAN, KIND_NOT_TAKEN, NO_ROOM, OTHER_ADDRESS, UNPOWERED};
+use crate::log::{check, Event, ABSENT_FAN, NO_ROOM, OTHER_ADDRESS, UNPOWERED};
 
 /// Registers: offsets within a fan's sixteen registers.
 pub const SETTING: usize = 0x0;
@@ -378,15 +378,14 @@ impl Chip {
         }
     }
 
-    /// A step: the numbers of the fields, then 6, 22, 21, 7, 8; CR 3: "without a place". "A refusal leaves state and buffers
+    /// A step: the numbers of the fields, then 6, 21, 7, 8; CR 3: "without a place". "A refusal leaves state and buffers
     /// unchanged".
     pub fn step(&mut self, event: &Event, log: &[u8], room: &mut [u8]) -> Result<usize, u8> {
         check(event, log)?;
         self.take(event, log, room)
     }
 
-    /// The rest of a step: an event whose fields are in their ranges, as `log::read` gives it. CR 6: "The EMC2305 run answers
-    /// 22 to kind 7."
+    /// The rest of a step: an event whose fields are in their ranges, as `log::read` gives it.
     #[inline] // a run is slower without
     pub(crate) fn take(&mut self, event: &Event, log: &[u8], room: &mut [u8]) -> Result<usize, u8> {
         let power_on = matches!(event, Event::PowerOn { .. } | Event::PowerOnPart { .. });
@@ -407,7 +406,6 @@ impl Chip {
             } => {
                 return self.transfer(address, read, &log[place..place + length], room);
             }
-            Event::Temperature { .. } => return Err(KIND_NOT_TAKEN),
         }
         Ok(0)
     }

@@ -6,7 +6,7 @@ use model::log::{read, Event};
 use model::speeds::rpm;
 
 /// What is counted by name; each m with each number of edges has a name of its own.
-pub const NAMES: [&str; 31] = [
+pub const NAMES: [&str; 28] = [
     "sample of count 0 taken",
     "sample of count 0 ahead of any other of its fan",
     "sample of count 1 taken",
@@ -35,9 +35,6 @@ pub const NAMES: [&str; 31] = [
     "number 14",
     "number 14 for a sample of count 0",
     "another refusal in the place of 14",
-    "temperature sample behind a sample of a fan",
-    "temperature sample when a fan is full",
-    "number 14 right behind a temperature sample",
 ];
 
 /// A name for each m and number of edges, by bits 3..6 of Configuration 1.
@@ -79,7 +76,6 @@ impl Coverage {
     /// Walks a log as a report does.
     pub(super) fn speeds(&mut self, log: &[u8]) {
         let (mut chip, mut place, mut seen) = (Chip::unpowered(), 0, [Seen::default(); FANS]);
-        let mut warmed = false;
         while let Ok(Some((event, next))) = read(log, place) {
             let taken = chip.step(&event, log, &mut [0; ROOM]).is_ok();
             match event {
@@ -90,7 +86,6 @@ impl Coverage {
                     if seen[index].full() {
                         self.count("number 14", true);
                         self.count("number 14 for a sample of count 0", count == 0);
-                        self.count("number 14 right behind a temperature sample", warmed);
                         self.count("number 14 behind a sample of the fan while absent", seen[index].absent);
                         return;
                     }
@@ -106,20 +101,11 @@ impl Coverage {
                 Event::PowerOn { .. } | Event::PowerOnPart { .. } => {
                     seen.iter_mut().for_each(|seen| seen.powered_on = true);
                 }
-                Event::Temperature { .. } => self.temperature_in_report(&seen),
                 _ => {}
             }
-            warmed = matches!(event, Event::Temperature { .. });
             place = next;
         }
         self.report_end(&chip, &seen, &log[place..]);
-    }
-
-    fn temperature_in_report(&mut self, seen: &[Seen; FANS]) {
-        let some = seen.iter().any(|seen| seen.configuration1.is_some());
-        self.count("temperature sample behind a sample of a fan", some);
-        let full = seen.iter().any(Seen::full);
-        self.count("temperature sample when a fan is full", full);
     }
 
     fn refused_with_21(&mut self, seen: &mut Seen) {

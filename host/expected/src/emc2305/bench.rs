@@ -158,10 +158,6 @@ impl Bench {
         self.happen(b'W', &[fan, drive], &events::wish(fan, drive), &[]);
     }
 
-    pub fn temperature(&mut self, zone: u8, byte: u8) {
-        self.happen(b'Z', &[zone, byte], &events::temperature(zone, byte), &[]);
-    }
-
     /// A transfer by its fields, good or not, over a log.
     pub fn transfer(&mut self, event: &Event, log: &[u8]) {
         let Event::Transfer {

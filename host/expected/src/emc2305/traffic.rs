@@ -225,36 +225,6 @@ pub fn part_cases(bench: &mut Bench) {
     bench.registers();
 }
 
-/// Events on any part, from before its power-on, with temperature samples between them, a few of a bad zone.
-pub fn temperature_cases(bench: &mut Bench) {
-    bench.title("mixed traffic with temperature samples");
-    let chance = Chance::new(23_002_305);
-    for turn in 0..8 {
-        bench.fresh();
-        bench.room(4);
-        any_temperature(bench, &chance);
-        if turn % 2 == 0 {
-            bench.power_on();
-        } else {
-            bench.part_on(chance.among(&[1, 2, 3]));
-        }
-        lively(bench, &chance);
-        for _ in 0..30 {
-            if chance.one_in(3) {
-                any_temperature(bench, &chance);
-            } else {
-                any_event(bench, &chance);
-            }
-        }
-    }
-    bench.registers();
-}
-
-fn any_temperature(bench: &mut Bench, chance: &Chance) {
-    let zone = chance.among(&[1, 1, 2, 2, 3, 3, 0, 4, chance.below(256)]);
-    bench.temperature(zone, chance.below(256));
-}
-
 fn any_power_on(bench: &mut Bench, chance: &Chance) {
     let address = chance.among(&mostly(6, HOME, &[chance.below(128), chance.below(256)]));
     match chance.below(5) {

@@ -10,14 +10,14 @@ step-number-requires : tie.Need-step-number-requires
 step-number-requires c κs = search rules
 
 reply-length-requires : tie.Need-reply-length-requires
-reply-length-requires c κs = ((step_numbers _ _ _ _ _ _).6.0 (sym c.before.step-number.ensures ∙ c.if1.false)).0
+reply-length-requires c κs = ((step_numbers _ _ _ _ _ _).5.0 (sym c.before.step-number.ensures ∙ c.if1.false)).0
 
 taken-requires : tie.Need-taken-requires
 taken-requires c κs =
-    let h = (step_numbers _ _ _ _ _ _).6.0 (sym c.before.before.before.step-number.ensures ∙ c.before.before.if1.false) in (
+    let h = (step_numbers _ _ _ _ _ _).5.0 (sym c.before.before.before.step-number.ensures ∙ c.before.before.if1.false) in (
       h.0,
       c.before.reply_length_lem.ensures,
-      rw c.before.reply_length_lem.ensures h.5,
+      rw c.before.reply_length_lem.ensures h.4,
     )
 
 same_length : tie.Need-same-length

@@ -3,8 +3,8 @@ use mathlib.Core.Path.{◌≡◌, sym, ◌∙◌}
 use mathlib.Core.Bool.{false}
 use borrow.Author.Rules.{rules}
 use Rattle.eventlog.specs.Range.{range_number}
-use Rattle.emc2305.specs.Step.{before_power, foreign, absent, elsewhere}
-use Rattle.emc2305.proofs.Ranged.{gives_range, gives_6, gives_22, gives_21, gives_7, gives_8, gives_0}
+use Rattle.emc2305.specs.Step.{before_power, absent, elsewhere}
+use Rattle.emc2305.proofs.Ranged.{gives_range, gives_6, gives_21, gives_7, gives_8, gives_0}
 use Rattle.emc2305.proofs.steps.step_number.Statement.{statement}
 use Rattle.emc2305.proofs.steps.step_number.Tie as tie
 
@@ -24,58 +24,45 @@ in-range c = sym c.before.range-number.ensures ∙ c.if1.false
 returns-2 : tie.Need-returns-2
 returns-2 c = gives_6 _ _ _ _ _ _ (in-range c.before.before) (sym c.before.before-power.ensures ∙ c.if2.true)
 
-foreign-requires : tie.Need-foreign-requires
-foreign-requires c κs = search rules
+absent-requires : tie.Need-absent-requires
+absent-requires c κs = search rules
 
 with-power : (c : tie.Else2) → (let a = c.before.before.before.before.before.args in before_power a.powered a.event ≡ false)
 with-power c = sym c.before.before-power.ensures ∙ c.if2.false
 
 returns-3 : tie.Need-returns-3
 returns-3 c =
-    gives_22 _ _ _ _ _ _ (in-range c.before.before.before.before) (with-power c.before.before) (sym c.before.foreign.ensures ∙ c.if3.true)
-
-absent-requires : tie.Need-absent-requires
-absent-requires c κs = search rules
-
--- the kind is one that the device takes
-of-ours : (c : tie.Else3) → (let a = c.before.before.before.before.before.before.before.args in foreign a.event ≡ false)
-of-ours c = sym c.before.foreign.ensures ∙ c.if3.false
-
-returns-4 : tie.Need-returns-4
-returns-4 c =
-    let b4 = c.before.before.before.before in
-    gives_21 _ _ _ _ _ _ (in-range b4.before.before) (with-power b4) (of-ours c.before.before) (sym c.before.absent.ensures ∙ c.if4.true)
+    gives_21 _ _ _ _ _ _ (in-range c.before.before.before.before) (with-power c.before.before) (sym c.before.absent.ensures ∙ c.if3.true)
 
 elsewhere-requires : tie.Need-elsewhere-requires
 elsewhere-requires c κs = search rules
 
-is-there : (c : tie.Else4) → (let a = c.before.before.before.before.before.before.before.before.before.args in absent a.part a.event ≡ false)
-is-there c = sym c.before.absent.ensures ∙ c.if4.false
+is-there : (c : tie.Else3) → (let a = c.before.before.before.before.before.before.before.args in absent a.part a.event ≡ false)
+is-there c = sym c.before.absent.ensures ∙ c.if3.false
+
+returns-4 : tie.Need-returns-4
+returns-4 c =
+    let b4 = c.before.before.before.before in
+    gives_7 _ _ _ _ _ _ (in-range b4.before.before) (with-power b4) (is-there c.before.before) (sym c.before.elsewhere.ensures ∙ c.if4.true)
+
+reply-length-requires : tie.Need-reply-length-requires
+reply-length-requires c κs = in-range c.before.before.before.before.before.before
+
+-- the transfer is to this address
+to-us : (c : tie.Else4) → (let a = c.before.before.before.before.before.before.before.before.before.args in elsewhere a.address a.event ≡ false)
+to-us c = sym c.before.elsewhere.ensures ∙ c.if4.false
 
 returns-5 : tie.Need-returns-5
 returns-5 c =
     let b4 = c.before.before.before.before in
     let b6 = b4.before.before in
-    gives_7 _ _ _ _ _ _ (in-range b6.before.before) (with-power b6) (of-ours b4) (is-there c.before.before) (sym c.before.elsewhere.ensures ∙ c.if5.true)
-
-reply-length-requires : tie.Need-reply-length-requires
-reply-length-requires c κs = in-range c.before.before.before.before.before.before.before.before
-
--- the transfer is to this address
-to-us : (c : tie.Else5) → (let a = c.before.before.before.before.before.before.before.before.before.before.before.args in elsewhere a.address a.event ≡ false)
-to-us c = sym c.before.elsewhere.ensures ∙ c.if5.false
+    gives_8 _ _ _ _ _ _ (in-range b6.before.before) (with-power b6) (is-there b4) (to-us c.before.before) (rw (sym c.before.reply_length_lem.ensures) c.if5.true)
 
 returns-6 : tie.Need-returns-6
 returns-6 c =
     let b4 = c.before.before.before.before in
-    let b8 = b4.before.before.before.before in
-    gives_8 _ _ _ _ _ _ (in-range b8.before.before) (with-power b8) (of-ours b4.before.before) (is-there b4) (to-us c.before.before) (rw (sym c.before.reply_length_lem.ensures) c.if6.true)
-
-returns-7 : tie.Need-returns-7
-returns-7 c =
-    let b4 = c.before.before.before.before in
-    let b8 = b4.before.before.before.before in
-    gives_0 _ _ _ _ _ _ (in-range b8.before.before) (with-power b8) (of-ours b4.before.before) (is-there b4) (to-us c.before.before) (rw (sym c.before.reply_length_lem.ensures) c.if6.false)
+    let b6 = b4.before.before in
+    gives_0 _ _ _ _ _ _ (in-range b6.before.before) (with-power b6) (is-there b4) (to-us c.before.before) (rw (sym c.before.reply_length_lem.ensures) c.if5.false)
 
 pub step-number-spec : {M : Type 1} → statement M
 step-number-spec =
@@ -85,12 +72,10 @@ step-number-spec =
     returns
     before-power-requires
     returns-2
-    foreign-requires
-    returns-3
     absent-requires
-    returns-4
+    returns-3
     elsewhere-requires
-    returns-5
+    returns-4
     reply-length-requires
-    returns-6
-    returns-7)
+    returns-5
+    returns-6)

@@ -84,9 +84,6 @@ with-fans-requires c κs = search rules
 power-on-requires-2 : tie.Need-power-on-requires-2
 power-on-requires-2 c κs = search rules
 
-enum_told : tie.Need-enum-told
-enum_told c = search rules
-
 returns : tie.Need-returns
 unfolding taken
 returns c =
@@ -153,14 +150,6 @@ returns-7 c =
       no_reply a.log.now a.event a.chip a.reply.now (rw c.before.before.before.event6.given.1 refl),
     )
 
-returns-8 : tie.Need-returns-8
-unfolding taken
-returns-8 c =
-    let a = c.before.before.before.before.args in (
-      rw c.enum_told.given.1 refl,
-      no_reply a.log.now a.event a.chip a.reply.now (rw c.enum_told.given.1 refl),
-    )
-
 pub taken-spec : {M : Type 1} → statement M
 taken-spec =
     tie.close
@@ -189,7 +178,6 @@ taken-spec =
     enum-known-event-6
     with-fans-requires
     power-on-requires-2
-    enum_told
     returns
     returns-2
     returns-3
@@ -197,5 +185,4 @@ taken-spec =
     same_length
     returns-5
     returns-6
-    returns-7
-    returns-8)
+    returns-7)

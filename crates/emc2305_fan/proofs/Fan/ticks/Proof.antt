@@ -4,9 +4,9 @@ use Prim.Native.Nat.{ℕ}
 use native.Mathlib.Omega.{arith}
 use borrow.Author.Rules.{rules}
 use Rattle.laws.specs.Repeat.{repeated}
-use Rattle.laws.proofs.Repeat.{first_step}
 use Rattle.emc2305_fan.specs.Tick.{ticked}
 use Rattle.emc2305_fan.proofs.Steps.{ticks_spin}
+use Rattle.emc2305_fan.proofs.Ticks.{first_tick}
 use Rattle.emc2305_fan.proofs.Fan.ticks.Statement.{statement}
 use Rattle.emc2305_fan.proofs.Fan.ticks.Tie as tie
 
@@ -35,7 +35,7 @@ loop-less c = omega arith
 loop-again : tie.Need-loop-preserved invariant-loop decreases-loop
 loop-again c =
     let l = c.before.before.before.loop in
-    first_step l.left ticked l.fan c.spin-tick.result (omega arith) (c.spin-tick.ensures ∙ sym (ticks_spin l.fan c.before.before.loop-test.true))
+    first_tick l.left l.fan c.spin-tick.result (omega arith) (c.spin-tick.ensures ∙ sym (ticks_spin l.fan c.before.before.loop-test.true))
     ∙ l.invariant
 
 still-ticks-requires : tie.Need-still-ticks-requires invariant-loop decreases-loop
