@@ -1,5 +1,7 @@
 // The C face of the report of speeds (include/cobblehard.h), with no rule of its own. It is a library apart from `cobblehard`: a second caller of the chip's
 // step would keep it from being compiled into the run's loop (docs/PERFORMANCE.md).
+#![tactic(auto)]
+
 ghost use Rattle.std.specs.Prelude.{◌≡◌, ◌<◌, get_or};
 ghost use Rattle.reports.specs.Lines.{all_figures};
 ghost use Rattle.emc2305_report.specs.Speeds.{speeds_of};

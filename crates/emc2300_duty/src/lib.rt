@@ -1,9 +1,11 @@
 // What an output of the EMC2300 is asked for (docs/EMC2300.md, 'Duty').
+#![tactic(auto)]
+
 mod outputs;
 mod zones;
 
 // A zone: its latest temperature, and its registers 5Fh+ (range in bits 7..4), 67h+ and 6Ah+. Temperatures and limits are signed bytes.
-#[derive(Drop)]
+#[derive(Clone, Copy)]
 pub struct Zone {
     pub temperature: u8,
     pub configuration: u8,
@@ -12,7 +14,7 @@ pub struct Zone {
 }
 
 // An output's registers: 30h+ as it was stored, 5Ch+, its half of 62h or 63h (bit 3 enable, 2..0 rate), 64h+, 94h+.
-#[derive(Drop)]
+#[derive(Clone, Copy)]
 pub struct Registers {
     pub setting: u8,
     pub configuration: u8,
@@ -22,7 +24,7 @@ pub struct Registers {
 }
 
 // What an output is asked for.
-#[derive(Drop)]
+#[derive(Clone, Copy)]
 pub enum Asked {
     Full,
     Off,

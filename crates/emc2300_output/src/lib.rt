@@ -1,4 +1,6 @@
 // One output of the EMC2300: ramp, settling, spin-up, tick (docs/EMC2300.md). Its registers and what they ask for are handed in.
+#![tactic(auto)]
+
 mod ramp;
 mod settling;
 mod ticks;
@@ -7,7 +9,7 @@ pub use ramp::{rate, under_ramp};
 pub use settling::spin_length;
 
 // The state of one output.
-#[derive(Drop)]
+#[derive(Clone, Copy)]
 pub struct Output {
     // 0 in a spin-up.
     pub duty: u8,

@@ -11,7 +11,7 @@ const POWER_ON: [u8; 19] = [
     0x80, 0x64,
 ];
 
-#[derive(Drop)]
+#[derive(Clone, Copy)]
 pub struct Bench {
     pub fields: [u8; 19],
     pub output: Output,

@@ -1,5 +1,7 @@
 // Runs the commands on standard input over one output and its zones, and writes a line for each. The files stdin and stdout hold the
 // commands and the lines, both made by host/expected with a model that was written apart from this code.
+#![tactic(auto)]
+
 mod commands;
 mod fields;
 mod show;

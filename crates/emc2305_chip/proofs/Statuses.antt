@@ -1,6 +1,6 @@
 -- The status bytes and what clears them, the alert line.
 use mathlib.Core.Path.{◌≡◌, refl, sym, ap, ◌∙◌}
-use mathlib.Core.Bool.{Bool, true, false, cond, not, ◌&&◌, ◌||◌, false≢true, or_true}
+use mathlib.Core.Bool.{Bool, true, false, cond, not, ◌&&◌, ◌||◌, false≢true, or-true}
 use mathlib.Core.List.{List}
 use Prim.Native.Nat.{ℕ, zero, suc, ◌+◌, ◌<◌}
 use native.Mathlib.Omega.{arith}
@@ -126,7 +126,7 @@ module _ (enable : ℕ) (fans : List Fan) where
   raised zero i h b s = absurd (omega arith)
   raised (suc n) i h b s =
       by_test (eqb i n)
-      (λ t. let own : interrupts enable i (fan_at fans i) ≡ true = rw (b, s) in rw (← eqb-true i n t, own, or_true _))
+      (λ t. let own : interrupts enable i (fan_at fans i) ≡ true = rw (b, s) in rw (← eqb-true i n t, own, or-true _))
       (λ f. rw (raised n i (omega (arith, eqb-false i n f)) b s))
 
 pub alert : Alert

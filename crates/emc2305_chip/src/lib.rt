@@ -1,4 +1,6 @@
 // The chip's registers and ticks: a part with one, two, three or five fans side by side, register map, lock, status, alert line, watchdog (document 01: 'Registers' and 'Tach and watchdog').
+#![tactic(auto)]
+
 mod fans;
 mod map;
 mod one_fan;
@@ -22,7 +24,7 @@ pub use registers::{is_cleared, is_writable};
 const PLACES: usize = 5;
 
 // The chip.
-#[derive(Drop)]
+#[derive(Clone, Copy)]
 pub struct Chip {
     pub powered: bool,
     // The bus address.
@@ -45,7 +47,7 @@ pub struct Chip {
 }
 
 // What stands at a register address.
-#[derive(Drop)]
+#[derive(Clone, Copy)]
 pub enum Register {
     // The fan, from 0, and the offset.
     OfFan(usize, usize),
@@ -54,7 +56,7 @@ pub enum Register {
 }
 
 // The registers that are no fan's.
-#[derive(Drop)]
+#[derive(Clone, Copy)]
 pub enum Own {
     Configuration,
     Status,
@@ -70,7 +72,7 @@ pub enum Own {
 }
 
 // What happens to fans alike.
-#[derive(Drop)]
+#[derive(Clone, Copy)]
 pub enum Move {
     PowerOn(Part),
     Ticks(u16),

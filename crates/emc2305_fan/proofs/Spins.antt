@@ -1,6 +1,6 @@
 -- Ticks in spin-up, and its end.
 use mathlib.Core.Path.{◌≡◌, refl, ap, ◌∙◌}
-use mathlib.Core.Bool.{true, and-false, or_true, or-false}
+use mathlib.Core.Bool.{true, and-false, or-true, or-false}
 use Prim.Native.Nat.{ℕ, zero, suc, ◌+◌, ◌-◌, ◌/◌, ◌≤◌, ◌<◌}
 use native.Mathlib.Omega.{arith}
 use native.Mathlib.Nat.{add-zero, add-suc}
@@ -49,7 +49,7 @@ pub last_direct : LastDirect
 unfolding spin_over spin_failed too_slow under_ramp goal
 last_direct f run h direct =
     last f run h
-    ∙ by_test (too_slow f) (λ t. rw (t, direct, or_true f.failed)) (λ t. rw (t, direct, or-false f.failed))
+    ∙ by_test (too_slow f) (λ t. rw (t, direct, or-true f.failed)) (λ t. rw (t, direct, or-false f.failed))
 
 pub last_closed : LastClosed
 unfolding spin_over spin_failed too_slow under_ramp goal started

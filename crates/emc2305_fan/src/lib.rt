@@ -1,4 +1,6 @@
 // One fan of the EMC2305 (document 01: 'Registers', 'Drive', 'Spin-up', 'Tach and watchdog').
+#![tactic(auto)]
+
 mod drive;
 mod registers;
 mod spin_up;
@@ -45,7 +47,7 @@ const NO_KICK: u8 = 0x20;
 const DRIVER_OFF: u8 = 0xFF;
 
 // A spin-up. Power-on and the end of one leave all of it 0.
-#[derive(Drop)]
+#[derive(Clone, Copy)]
 pub struct SpinUp {
     pub running: bool,
     // Ticks so far.
@@ -57,14 +59,14 @@ pub struct SpinUp {
 }
 
 // The two status bits of a fan: that of 25h and that of 26h.
-#[derive(Drop)]
+#[derive(Clone, Copy)]
 pub enum Bit {
     Stall,
     Spin,
 }
 
 // The state of one fan.
-#[derive(Drop)]
+#[derive(Clone, Copy)]
 pub struct Fan {
     // By offset. Setting holds what was stored there; a read of it shows the drive.
     pub registers: [u8; 16],
@@ -80,7 +82,7 @@ pub struct Fan {
 }
 
 // What data bytes leave of a fan.
-#[derive(Drop)]
+#[derive(Clone, Copy)]
 pub struct Written {
     pub fan: Fan,
     // Whether a byte programmed it, which ends the power-up watch.

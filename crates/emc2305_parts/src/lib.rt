@@ -1,10 +1,12 @@
 // The parts: how many fans each has, its reset bytes, its identity bytes (document 02, CR 5). Until a part's own datasheet is at hand all have the bytes of
 // Table 5.1 of 002; what a datasheet says otherwise changes one line, in that part's constants.
+#![tactic(auto)]
+
 ghost use Rattle.std.specs.Prelude.{◌≡◌};
 ghost use Rattle.emc2305_parts.specs.Parts.{part_with, fans_of, reset_of, identity_of};
 
 // The parts that there are.
-#[derive(Drop)]
+#[derive(Clone, Copy)]
 pub enum Part {
     Emc2301,
     Emc2302,
@@ -13,7 +15,7 @@ pub enum Part {
 }
 
 // The bytes that power-on sets.
-#[derive(Drop)]
+#[derive(Clone, Copy)]
 pub struct Reset {
     // A fan's registers, by offset.
     pub fan: [u8; 16],
@@ -43,7 +45,7 @@ const TABLE_RESET: Reset = Reset {
 const TABLE_IDENTITY: [u8; 4] = [0x00, 0x34, 0x5D, 0x80];
 
 // The part with one fan.
-#[derive(Drop)]
+#[derive(Clone, Copy)]
 pub struct Emc2301 {}
 
 impl Emc2301 {
@@ -55,7 +57,7 @@ impl Emc2301 {
 }
 
 // The part with two.
-#[derive(Drop)]
+#[derive(Clone, Copy)]
 pub struct Emc2302 {}
 
 impl Emc2302 {
@@ -67,7 +69,7 @@ impl Emc2302 {
 }
 
 // The part with three.
-#[derive(Drop)]
+#[derive(Clone, Copy)]
 pub struct Emc2303 {}
 
 impl Emc2303 {
@@ -79,7 +81,7 @@ impl Emc2303 {
 }
 
 // The part with five.
-#[derive(Drop)]
+#[derive(Clone, Copy)]
 pub struct Emc2305 {}
 
 impl Emc2305 {

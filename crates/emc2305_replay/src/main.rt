@@ -1,4 +1,6 @@
 // Lists the log on standard input, or in the file that the one argument names: a line for each record, and a last one (document 01, 'Numbers given back').
+#![tactic(auto)]
+
 use emc2305_chip::Chip;
 use libc::{STDERR_FILENO, STDIN_FILENO, STDOUT_FILENO};
 use streams::{Asks, Held};

@@ -1,4 +1,6 @@
 // The EMC2305's report of speeds over a log (document 02, CR 2): over a whole log, and over one that may be longer than any buffer, a window at a time.
+#![tactic(auto)]
+
 mod walk;
 
 ghost use Rattle.std.specs.Prelude.{◌≡◌, [], ◌∷◌};
@@ -13,7 +15,7 @@ use windows::Wants;
 
 // What a call gives: the chip and the figures after what was reported, the place there, how many bytes of the window that is, how many bytes of text were
 // laid, and what is wanted before it can go on.
-#[derive(Drop)]
+#[derive(Clone, Copy)]
 pub struct Told {
     pub chip: Chip,
     pub fans: [Figures; 5],

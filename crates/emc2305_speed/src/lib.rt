@@ -1,4 +1,6 @@
 // Whole RPM of a tach sample, and by the reading's high byte (document 02, CR 2).
+#![tactic(auto)]
+
 mod table;
 
 ghost use Rattle.std.specs.Prelude.{◌≡◌, ◌≤◌};

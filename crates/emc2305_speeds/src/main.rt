@@ -1,4 +1,6 @@
 // Reports the speeds of the fans over the log on standard input: a line for each fan, and a last one (document 02, CR 2). The poles are its one argument.
+#![tactic(auto)]
+
 ghost use Rattle.std.specs.Prelude.{◌≡◌};
 ghost use Rattle.emc2305_speeds.specs.Arguments.{poles_of};
 

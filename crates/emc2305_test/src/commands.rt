@@ -16,7 +16,7 @@ const HEAD: usize = 4;
 const LARGEST: usize = 18446744073709551615;
 
 // A chip, and how much room its replies are lent.
-#[derive(Drop)]
+#[derive(Clone, Copy)]
 pub struct Bench {
     pub chip: Chip,
     pub room: usize,

@@ -1,5 +1,7 @@
 // Runs the commands on standard input over one chip, and writes a line for each. The files stdin and stdout hold the
 // commands and the lines, both made by host/expected with a model written from document 01 and the datasheet's register table alone.
+#![tactic(auto)]
+
 mod commands;
 mod show;
 

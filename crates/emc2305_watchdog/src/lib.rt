@@ -1,4 +1,6 @@
 // The watchdog: which watch runs, and how many ticks it has counted (document 01, 'Tach and watchdog').
+#![tactic(auto)]
+
 ghost use Rattle.std.specs.Prelude.{◌≡◌, min};
 ghost use Rattle.emc2305_watchdog.specs.Watch.{in_power_up, fires, watch_ticked, fed, programmed, configured, reached, ticks_left, quietly};
 
@@ -9,7 +11,7 @@ const LIMIT: u32 = 320;
 const LAST: u16 = 319;
 
 // Only one watch runs at a time. Each holds its count of ticks.
-#[derive(Drop)]
+#[derive(Clone, Copy)]
 pub enum Watch {
     Off,
     PowerUp(u16),
@@ -17,7 +19,7 @@ pub enum Watch {
 }
 
 // What passes before a watch fires: how many ticks, and the watch after them.
-#[derive(Drop)]
+#[derive(Clone, Copy)]
 pub struct Quiet {
     pub ticks: u16,
     pub watch: Watch,

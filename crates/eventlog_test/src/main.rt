@@ -1,5 +1,7 @@
 // Runs the cases on standard input over the event log's reader and writer, and writes a line for each. The files stdin
 // and stdout hold the cases and the lines, both made by host/expected with a model written from document 01 alone.
+#![tactic(auto)]
+
 mod reading;
 mod show;
 mod writing;

@@ -22,7 +22,7 @@ pub fn at_place(case: &[u8]) {
 }
 
 // What reading gave but for the event: its number, or END, and the place of a fault, else 0.
-#[derive(Drop)]
+#[derive(Clone, Copy)]
 struct Gave {
     number: u8,
     fault: usize,
@@ -73,8 +73,8 @@ pub fn vary(case: &[u8]) {
     show::text(b":");
     if log.len() <= SPACE {
         let mut space = [0; SPACE];
-        let n = bytes::copy(log, &mut space);
-        vary_byte(&mut space[0..n], at);
+        space[..log.len()].copy_from_slice(log);
+        vary_byte(&mut space[..log.len()], at);
     }
 }
 

@@ -1,1 +1,2 @@
 // No code: what every crate above says and cites (specs/, proofs/).
+#![tactic(auto)]

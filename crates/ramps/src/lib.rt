@@ -1,10 +1,12 @@
 // A ramp, of whichever device: the drive goes to its goal by a step each period (document 01, 'Drive').
+#![tactic(auto)]
+
 ghost use Rattle.std.specs.Prelude.{◌≡◌, max, ◌<◌};
 ghost use Rattle.laws.specs.Repeat.{repeated};
 ghost use Rattle.ramps.specs.Ramp.{moved, counted};
 
 // Where a ramp stands.
-#[derive(Drop)]
+#[derive(Clone, Copy)]
 pub struct Ramp {
     pub drive: u8,
     // Ticks that the update clock has counted.

@@ -1,1 +1,2 @@
 // The records of a log, for whatever walks over them: definitions and proofs, no code.
+#![tactic(auto)]

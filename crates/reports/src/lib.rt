@@ -1,4 +1,6 @@
 // The figures of a report over a log: those of a fan, a sample at a time, and all of them as text (document 02, CR 2).
+#![tactic(auto)]
+
 mod lines;
 
 ghost use Rattle.std.specs.Prelude.{◌≡◌, ◌+◌, ◌<◌};
@@ -17,7 +19,7 @@ pub const TOO_MANY: u8 = 14;
 const LIMIT: u32 = 65535;
 
 // The figures of a fan: how many samples have a count above 0; the lowest, the highest and the total of their whole RPM; how many have count 0.
-#[derive(Drop)]
+#[derive(Clone, Copy)]
 pub struct Figures {
     pub samples: u16,
     pub lowest: u32,
@@ -27,7 +29,7 @@ pub struct Figures {
 }
 
 // What a report gives: the last number, the place of the stopping record or the end, how many records it took, and the figures of each fan.
-#[derive(Drop)]
+#[derive(Clone, Copy)]
 pub struct Report {
     pub number: u8,
     pub place: usize,

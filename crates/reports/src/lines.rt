@@ -22,7 +22,7 @@ pub fn lay(fans: [Figures; 5], place: u64, number: u8, out: &mut [u8]) -> Piece
             len: 0,
         };
     }
-    bytes::copy(&lines[..len], out);
+    out[..len].copy_from_slice(&lines[..len]);
     Piece { fits: true, len }
 }
 

@@ -1,5 +1,7 @@
 // What programs share that read a log as it comes: what a window holds of it, reading on, writing a text whole, and what the arguments ask for.
 // It calls the C library, whose contracts the kit assumes: so only programs use it.
+#![tactic(auto)]
+
 ghost use Rattle.std.specs.Prelude.{◌≡◌, true, ◌+◌, ◌-◌, ◌≤◌, length, take};
 ghost use Rattle.io.specs.Counts.{IsPrefixLen};
 ghost use Rattle.laws.specs.Buffer.{bytes_at};
@@ -10,7 +12,7 @@ use libc::EINTR;
 use windows::Wants;
 
 // What a window holds between two calls: window[from..held] is read and not yet used. Then whether the input has ended, and whether to go on.
-#[derive(Drop)]
+#[derive(Clone, Copy)]
 pub struct Held {
     pub from: usize,
     pub held: usize,
@@ -27,7 +29,7 @@ const OVER: Held = Held {
 };
 
 // What a program's arguments are: none, `--help` alone, another one alone, one that is longer than the buffer, or several.
-#[derive(Drop)]
+#[derive(Clone, Copy)]
 pub enum Asks {
     Nothing,
     Help,
@@ -37,7 +39,7 @@ pub enum Asks {
 }
 
 // That, and how many bytes of the buffer an argument has that stands alone and fits, else 0.
-#[derive(Drop)]
+#[derive(Clone, Copy)]
 pub struct Arguments {
     pub asks: Asks,
     pub len: usize,

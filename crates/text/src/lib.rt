@@ -1,5 +1,7 @@
 // The text of a listing and of a report, in ASCII (document 01, 'Numbers given back'). Each function lays a text whole at the front of a buffer where it fits, or
 // nothing: a text's length is known before its first byte is laid.
+#![tactic(auto)]
+
 mod hex;
 mod numbers;
 mod rows;
@@ -9,7 +11,7 @@ ghost use Rattle.text.specs.Text.{decimal, line_of, closing, row_rest, row_of, r
 ghost use Rattle.text.specs.Whole.{piece_of, laid_whole};
 
 // What became of a text: whether it fitted and was laid, and how many bytes that were, 0 where it did not.
-#[derive(Drop)]
+#[derive(Clone, Copy)]
 pub struct Piece {
     pub fits: bool,
     pub len: usize,
@@ -101,7 +103,7 @@ fn worded_row(word: &[u8], first: u64, rest: &[u64], out: &mut [u8]) -> Piece
     if out.len() < end || !rows::fits(rest, out.len() - end) {
         return NOTHING;
     }
-    bytes::copy(word, out);
+    out[..at].copy_from_slice(word);
     numbers::lay_digits(first, width, &mut out[at..]);
     let len = end + rows::lay(rest, &mut out[end..]);
     Piece { fits: true, len }
