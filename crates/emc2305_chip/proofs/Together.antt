@@ -76,9 +76,3 @@ module _ (n : ℕ) (c : Chip) where
         let k = quiet_ticks n c.watch in
         let g : d ≡ repeated k chip_ticked c = r ∙ rw (p, known) (sym (after k (omega arith))) in
         rw (g, known) (first_steps k n chip_ticked c (quiet_within n c.watch))
-
-    pub quiet_some : 1 ≤ n → fires c.watch ≡ false → 1 ≤ q.ticks
-    quiet_some h t = rw known (some_quiet n c.watch t h)
-
-    pub quiet_most : q.ticks ≤ n
-    quiet_most = rw known (quiet_within n c.watch)
