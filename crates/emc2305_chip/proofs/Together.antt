@@ -18,7 +18,7 @@ use Rattle.emc2305_fan.proofs.Ticks.{idle}
 use Rattle.emc2305_watchdog.specs.declared.Watch.{Watch}
 use Rattle.emc2305_watchdog.specs.declared.Quiet.{Quiet}
 use Rattle.emc2305_watchdog.specs.Watch.{fires, watch_ticked, quiet_ticks, watch_on, quietly}
-use Rattle.emc2305_watchdog.proofs.QuietTicks.{quiet_ticks_lem, quiet_within, some_quiet, watch_on_none}
+use Rattle.emc2305_watchdog.proofs.QuietTicks.{quiet_ticks_lem, quiet_within, watch_on_none}
 use Rattle.emc2305_chip.specs.declared.Chip.{Chip}
 use Rattle.emc2305_chip.specs.State.{fan_count, with_fans, with_watch}
 use Rattle.emc2305_chip.specs.Fans.{no_fan, fan_at, any_busy}

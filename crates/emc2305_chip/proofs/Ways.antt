@@ -1,19 +1,14 @@
 -- One law for each way through a function of the chip.
-use mathlib.Core.Path.{◌≡◌, refl, sym, ap}
-use mathlib.Core.Bool.{Bool, true, false, cond, not}
-use mathlib.Core.List.{List}
-use Prim.Native.Nat.{ℕ, ◌+◌, ◌≤◌}
+use mathlib.Core.Path.{◌≡◌, sym, ap}
+use mathlib.Core.Bool.{Bool, true, false, cond}
+use Prim.Native.Nat.{ℕ, ◌≤◌}
 use native.Mathlib.Omega.{arith}
-use lib.Dec.{eqb}
-use lib.ListN.{length, get_or, set, get_or-eq_default}
-use lib.Seq.{set_out}
-use Rattle.emc2305_fan.specs.declared.Fan.{Fan}
 use Rattle.emc2305_fan.specs.Registers.{bit}
 use Rattle.emc2305_watchdog.specs.Watch.{fires, watch_ticked}
 use Rattle.emc2305_chip.specs.declared.Chip.{Chip}
-use Rattle.emc2305_chip.specs.State.{fan_count, with_fans, with_watch}
-use Rattle.emc2305_chip.specs.Fans.{fan_at, interrupting}
-use Rattle.emc2305_chip.specs.Registers.{on_fan, stall_byte, spin_byte, status_byte, alert_line, register_at, stores_at, stored_of, written_at}
+use Rattle.emc2305_chip.specs.State.{fan_count, with_watch}
+use Rattle.emc2305_chip.specs.Fans.{interrupting}
+use Rattle.emc2305_chip.specs.Registers.{alert_line, register_at, stores_at, stored_of, written_at}
 use Rattle.emc2305_chip.specs.Ticks.{all_fired, all_ticked, chip_ticked}
 
 -- a flag is at most its weight

@@ -1,4 +1,4 @@
-use Rattle.std.proofs.Common.{◌≡◌, ◌≤◌, ℕ, arith, sym, ap, ◌∙◌}
+use Rattle.std.proofs.Common.{◌≡◌, ℕ, arith, sym, ap, ◌∙◌}
 use Rattle.laws.specs.Repeat.{repeated}
 use Rattle.emc2305_chip.specs.Ticks.{chip_ticked}
 use Rattle.emc2305_chip.proofs.Together.{fires_first, quiet_first}

@@ -1,4 +1,4 @@
-use Rattle.std.proofs.Common.{ℕ, ◌≡◌, ◌≢◌, ◌+◌, ◌<◌, ◌≤◌, arith, sym, ap, ◌∙◌}
+use Rattle.std.proofs.Common.{ℕ, ◌+◌, arith, sym, ap, ◌∙◌}
 use borrow.Author.Tests.{ne_eqb}
 use Rattle.emc2305_chip.specs.declared.Own.TheVariants.{Output}
 use Rattle.emc2305_chip.specs.declared.Register.TheVariants.{OfChip}

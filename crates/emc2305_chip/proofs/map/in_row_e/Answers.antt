@@ -1,4 +1,4 @@
-use Rattle.std.proofs.Common.{ℕ, ◌≡◌, ◌≢◌, ◌+◌, ◌<◌, ◌≤◌, arith, sym, ap, ◌∙◌}
+use Rattle.std.proofs.Common.{◌+◌, arith, sym}
 use borrow.Author.Tests.{ne_eqb}
 use Rattle.emc2305_chip.specs.Map.{register_of}
 use Rattle.emc2305_chip.proofs.Maps.{maps_high}

@@ -1,4 +1,4 @@
-use Rattle.std.proofs.Common.{ℕ, ◌≡◌, ◌≢◌, ◌+◌, ◌<◌, ◌≤◌, arith, sym, refl, ◌∙◌}
+use Rattle.std.proofs.Common.{arith, sym, refl, ◌∙◌}
 use mathlib.Core.Path.{ap₂}
 use borrow.Author.Tests.{ne_eqb}
 use Rattle.emc2305_chip.specs.Map.{of_fan}
