@@ -2,13 +2,13 @@
 use mathlib.Core.Path.{◌≡◌, refl, sym, ap}
 use mathlib.Core.Bool.{Bool, true, false, cond, ◌&&◌, ◌||◌, or-false}
 use mathlib.Core.List.{List, [], ◌∷◌}
-use Prim.Native.Nat.{ℕ, zero, suc, min, ◌+◌, ◌/◌, ◌%◌, ◌^◌, ◌≤◌, ◌<◌}
+use Prim.Native.Nat.{ℕ, zero, suc, min, ◌+◌, ◌^◌, ◌≤◌, ◌<◌}
 use native.Mathlib.Omega.{arith}
 use native.Mathlib.Nat.{two-pow-succ, one-le-pow}
 use lib.Dec.{leb, ltb, eqb}
 use lib.ListN.{get_or}
 use lib.Pow.{pow_mono}
-use borrow.Author.Tests.{leb-true, ltb-true, ltb-false, eqb-true, eqb-false, eq-eqb, ne_eqb}
+use borrow.Author.Tests.{leb-true, ltb-true, ltb-false, eqb-true, eqb-false}
 use Rattle.laws.specs.Lists.{first_moved}
 use Rattle.laws.proofs.Lists.{moved_still}
 use Rattle.laws.proofs.Tables.{entry}
@@ -121,10 +121,3 @@ unfolding interrupting
 interrupting_next enable fans n i on x sofar e =
     by_test (ltb i n) (λ t. rw (sofar, t, e, (within_count n i t).0, (within_count n i t).1))
     (λ t. rw (sofar, t, past_count n i t, or-false (interrupting enable fans (min i n))))
-
--- the fan's bit in 29h, by its weight
-pub enabled : (enable i w : ℕ) (f : Fan) → w ≡ 2 ^ i → enable / w % 2 ≡ 1 → (f.stalled || f.failed) ≡ interrupts enable i f
-enabled enable i w f e h = let t : eqb (enable / 2 ^ i % 2) 1 ≡ true = rw (sym e) (eq-eqb (enable / w % 2) 1 h) in rw t
-
-pub not_enabled : (enable i w : ℕ) (f : Fan) → w ≡ 2 ^ i → (enable / w % 2 ≡ 1 → ⊥) → false ≡ interrupts enable i f
-not_enabled enable i w f e h = let t : eqb (enable / 2 ^ i % 2) 1 ≡ false = rw (sym e) (ne_eqb (enable / w % 2) 1 h) in rw t

@@ -1,5 +1,4 @@
 pub mod Maps
-pub mod Others
 pub mod Ways
 pub mod Bits
 pub mod Moves

@@ -18,7 +18,7 @@ use Rattle.emc2305_fan.proofs.Ticks.{idle}
 use Rattle.emc2305_watchdog.specs.declared.Watch.{Watch}
 use Rattle.emc2305_watchdog.specs.declared.Quiet.{Quiet}
 use Rattle.emc2305_watchdog.specs.Watch.{fires, watch_ticked, quiet_ticks, watch_on, quietly}
-use Rattle.emc2305_watchdog.proofs.QuietTicks.{quiet_ticks_lem, quiet_within, some_quiet, watch_on_none}
+use Rattle.emc2305_watchdog.proofs.QuietTicks.{quiet_ticks_lem, quiet_within, watch_on_none}
 use Rattle.emc2305_chip.specs.declared.Chip.{Chip}
 use Rattle.emc2305_chip.specs.State.{fan_count, with_fans, with_watch}
 use Rattle.emc2305_chip.specs.Fans.{no_fan, fan_at, any_busy}
@@ -76,9 +76,3 @@ module _ (n : ℕ) (c : Chip) where
         let k = quiet_ticks n c.watch in
         let g : d ≡ repeated k chip_ticked c = r ∙ rw (p, known) (sym (after k (omega arith))) in
         rw (g, known) (first_steps k n chip_ticked c (quiet_within n c.watch))
-
-    pub quiet_some : 1 ≤ n → fires c.watch ≡ false → 1 ≤ q.ticks
-    quiet_some h t = rw known (some_quiet n c.watch t h)
-
-    pub quiet_most : q.ticks ≤ n
-    quiet_most = rw known (quiet_within n c.watch)

@@ -97,6 +97,7 @@ impl Chip {
     }
 
     // Every default, unlocked; the power-up watch starts.
+    #[tactic(auto, unfolding(crate::specs::Registers::at_defaults))]
     fn at_defaults(part: Part, powered: bool, address: u8) -> Chip
         ensures { result ≡ at_defaults part powered address }
     {

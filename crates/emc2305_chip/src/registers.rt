@@ -14,6 +14,7 @@ const LOCKED: u8 = 0x01;
 
 impl Chip {
     // What a read of the register at the address shows.
+    #[tactic(auto, unfolding(crate::specs::Registers::shown_at))]
     pub fn register(self, address: u8) -> u8
         ensures { result ≡ shown_at self address }
     {

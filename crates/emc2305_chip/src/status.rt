@@ -41,6 +41,7 @@ impl Chip {
     }
 
     // The alert line. WATCH is not gated by 29h.
+    #[tactic(auto, unfolding(crate::specs::Registers::alert_line))]
     pub fn alert(self) -> bool
         ensures { result ≡ alert_line self }
     {

@@ -28,6 +28,7 @@ impl Chip {
     }
 
     // The watchdog fires.
+    #[tactic(auto, unfolding(crate::specs::Ticks::all_fired))]
     fn all_fired(mut self) -> Chip
         ensures { result ≡ all_fired self }
     {

@@ -1,0 +1,19 @@
+use Rattle.std.proofs.Common.{ℕ, arith, ap, ◌∙◌}
+use Rattle.emc2305_chip.specs.Fans.{interrupting}
+use Rattle.emc2305_chip.proofs.Bits.{none_yet, all_places, interrupting_next}
+use Rattle.emc2305_chip.proofs.fans.interrupting.Goals as goal
+
+pub loop-i-init : goal.loop-i-init
+unfolding interrupting
+loop-i-init c = record { places = omega arith; so_far = rw (none_yet c.args.n) }
+
+pub loop-i-preserved : goal.loop-i-preserved
+loop-i-preserved c = record {
+  places = omega arith;
+  so_far = interrupting_next _ _ _ _ _ _ c.loop-i.invariant.so_far c.interrupts.ensures;
+}
+
+pub returns : goal.returns
+returns c =
+    c.loop-i.invariant.so_far
+    ∙ ap (λ (k : ℕ). interrupting c.args.enable c.args.fans k) (all_places _ _ c.loop-i.invariant.places c.loop-i-test.false c.requires)
