@@ -1,6 +1,6 @@
 -- A read of 25h or of 26h.
 use mathlib.Core.Path.{◌≡◌, refl, sym, ap}
-use mathlib.Core.Bool.{Bool, true, false, ◌&&◌, and-true, and-false}
+use mathlib.Core.Bool.{Bool, true, false, and-true, and-false}
 use Rattle.laws.proofs.Tests.{by_test}
 use Rattle.emc2305_fan.specs.declared.Bit.{Bit}
 use Rattle.emc2305_fan.specs.declared.Bit.TheVariants.{Stall, Spin}

@@ -1,17 +1,17 @@
 -- Ticks, stored writes and samples, one law for each way.
 use mathlib.Core.Path.{◌≡◌, ap, ◌∙◌}
-use mathlib.Core.Bool.{Bool, true, false, cond, not}
+use mathlib.Core.Bool.{Bool, true, false, cond}
 use Prim.Native.Nat.{ℕ, ◌+◌, ◌≤◌, ◌<◌}
 use borrow.Author.Tests.{le-leb, lt-leb, eq-eqb, ne_eqb}
 use Rattle.laws.proofs.Tests.{by_test}
 use Rattle.emc2305_fan.specs.declared.Fan.{Fan}
 use Rattle.emc2305_fan.specs.State.{with_drive, with_clock}
-use Rattle.emc2305_fan.specs.Registers.{bit, configuration2, closed_loop, stores}
-use Rattle.emc2305_fan.specs.Drive.{driver_off, goal, under_ramp, period}
+use Rattle.emc2305_fan.specs.Registers.{closed_loop, stores}
+use Rattle.emc2305_fan.specs.Drive.{goal, under_ramp, period}
 use Rattle.emc2305_fan.specs.Spin.{in_spin, spin_on, started, ended, too_slow, spin_over, spin_tick}
 use Rattle.emc2305_fan.specs.Tick.{updated, clock_ticked, ticked}
 use Rattle.emc2305_fan.specs.Stored.{put, wish_taken, clock_set, spin_held, spin_starts, drive_set, settled, written}
-use Rattle.emc2305_fan.specs.Tach.{judged, stall, judged_stall}
+use Rattle.emc2305_fan.specs.Tach.{judged, judged_stall}
 
 -- a counted tick below the period waits
 pub waits : (f : Fan) → f.clock + 1 < period f → clock_ticked f ≡ with_clock (f.clock + 1) f
@@ -32,11 +32,6 @@ spins_on f h = rw (lt-leb f.spin.length (f.spin.ticks + 1) h)
 pub spins_out : (f : Fan) → f.spin.length ≤ f.spin.ticks + 1 → spin_tick f ≡ spin_over f
 unfolding spin_tick
 spins_out f h = rw (le-leb f.spin.length (f.spin.ticks + 1) h)
-
--- ramp control in closed loop
-pub ramp_closed : (f : Fan) → closed_loop f ≡ true → under_ramp f ≡ not (driver_off f)
-unfolding under_ramp
-ramp_closed f e = ap (λ (t : Bool). cond t (not (driver_off f)) (bit 6 (configuration2 f))) e
 
 -- a tick in spin-up
 pub ticks_spin : (f : Fan) → f.spin.running ≡ true → ticked f ≡ spin_tick f
@@ -86,12 +81,6 @@ pub writes : (o b : ℕ) (f : Fan) → stores f o ≡ true
 unfolding written
 writes o b f e = rw e
 
--- a sample that is judged a stall, one that is not slow, one that is not judged
-pub stalls : (w : Bool) (f : Fan) → judged w f ≡ true → too_slow f ≡ true → judged_stall w f ≡ stall f
-stalls w f j s = rw (j, s)
-
+-- a sample that is not slow is no stall
 pub healthy : (w : Bool) (f : Fan) → too_slow f ≡ false → judged_stall w f ≡ f
 healthy w f s = by_test (judged w f) (λ t. rw (t, s)) (λ t. rw t)
-
-pub unjudged : (w : Bool) (f : Fan) → judged w f ≡ false → judged_stall w f ≡ f
-unjudged w f j = rw j

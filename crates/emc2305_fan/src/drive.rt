@@ -23,6 +23,7 @@ impl Fan {
     }
 
     // The drive that the fan is to have.
+    #[tactic(auto, unfolding(crate::specs::Drive::goal))]
     pub fn goal(self) -> u8
         ensures { result ≡ goal self }
     {
@@ -38,6 +39,7 @@ impl Fan {
     }
 
     // Whether the drive goes to the goal by steps.
+    #[tactic(auto, unfolding(crate::specs::Drive::under_ramp))]
     pub fn under_ramp(self) -> bool
         ensures { result ≡ under_ramp self }
     {
@@ -63,6 +65,7 @@ impl Fan {
     }
 
     // A wish of the loop; outside closed loop it does nothing.
+    #[tactic(auto, unfolding(crate::specs::Drive::wished))]
     pub fn wish(mut self, drive: u8) -> Fan
         ensures { result ≡ wished drive self }
     {
@@ -74,6 +77,7 @@ impl Fan {
     }
 
     // One tick of 12.5 ms.
+    #[tactic(auto, unfolding(crate::specs::Tick::ticked))]
     pub fn tick(self) -> Fan
         ensures { result ≡ ticked self }
     {
@@ -87,6 +91,7 @@ impl Fan {
     }
 
     // A tick that the update clock counts. A clock past its period acts as at the period.
+    #[tactic(auto, unfolding(crate::specs::Tick::clock_ticked, crate::specs::Tick::updated))]
     fn clock_tick(mut self) -> Fan
         ensures { result ≡ clock_ticked self }
     {

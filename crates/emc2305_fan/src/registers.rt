@@ -6,6 +6,7 @@ use crate::{CONFIGURATION_1, Fan, LOOP, SETTING, SpinUp};
 
 impl Fan {
     // Power-on: the part's reset bytes, and nothing running.
+    #[tactic(auto, unfolding(crate::specs::Registers::power_on))]
     pub fn power_on(registers: [u8; 16]) -> Fan
         ensures { result ≡ power_on registers }
     {
@@ -21,6 +22,7 @@ impl Fan {
     }
 
     // What a read of the offset shows.
+    #[tactic(auto, unfolding(crate::specs::Registers::shown))]
     pub fn register(self, offset: usize) -> u8
         ensures { result ≡ shown self offset }
     {
@@ -33,6 +35,7 @@ impl Fan {
     }
 
     // Whether a write to the offset is stored, where no lock forbids it.
+    #[tactic(auto, unfolding(crate::specs::Registers::stores))]
     pub fn stores(self, offset: usize) -> bool
         ensures { result ≡ stores self offset }
     {
@@ -54,6 +57,7 @@ impl Fan {
 }
 
 // Whether the lock guards the offset.
+#[tactic(auto, unfolding(crate::specs::Registers::locked))]
 pub fn is_locked(offset: usize) -> bool
     ensures { result ≡ locked offset }
 {

@@ -6,6 +6,7 @@ use crate::{Fan, NO_KICK, READING_HIGH, SPIN_UP, SpinUp, VALID_COUNT, registers,
 
 impl SpinUp {
     // The first quarter at 255, unless there is no kick; the rest at the level.
+    #[tactic(auto, unfolding(crate::specs::Spin::spin_drive))]
     fn drive(self) -> u8
         ensures { result ≡ spin_drive self }
     {
@@ -41,6 +42,7 @@ impl Fan {
     }
 
     // The start of a spin-up, which sets the drive.
+    #[tactic(auto, unfolding(crate::specs::Spin::started))]
     pub(crate) fn start(mut self) -> Fan
         ensures { result ≡ started self }
     {
@@ -61,6 +63,7 @@ impl Fan {
     }
 
     // Whether the reading's high byte is above Valid Count.
+    #[tactic(auto, unfolding(crate::specs::Spin::too_slow))]
     pub(crate) fn too_slow(self) -> bool
         ensures { result ≡ too_slow self }
     {
@@ -68,6 +71,7 @@ impl Fan {
     }
 
     // A tick in spin-up. A count past the length ends it too.
+    #[tactic(auto, unfolding(crate::specs::Spin::spin_tick))]
     pub(crate) fn spin_tick(mut self) -> Fan
         ensures { result ≡ spin_tick self }
     {
@@ -83,6 +87,7 @@ impl Fan {
     }
 
     // After the last tick: the reading is judged.
+    #[tactic(auto, unfolding(crate::specs::Spin::spin_over))]
     fn spin_over(mut self) -> Fan
         ensures { result ≡ spin_over self }
     {
@@ -95,6 +100,7 @@ impl Fan {
     }
 
     // In closed loop a failed spin-up starts again, in direct mode it ends.
+    #[tactic(auto, unfolding(crate::specs::Spin::spin_failed))]
     fn spin_failed(self) -> Fan
         ensures { result ≡ spin_failed self }
     {

@@ -16,6 +16,7 @@ impl Fan {
     }
 
     // The fan after a read of 25h or of 26h.
+    #[tactic(auto, unfolding(crate::specs::Status::bit_read))]
     pub fn bit_read(self, bit: Bit) -> Fan
         ensures { result ≡ bit_read bit self }
     {
@@ -27,6 +28,7 @@ impl Fan {
     }
 
     // Whether the latest reading is too slow while the fan is driven. In spin-up too: the stall's conditions are others.
+    #[tactic(auto, unfolding(crate::specs::Status::stuck))]
     pub fn is_stuck(self) -> bool
         ensures { result ≡ stuck self }
     {

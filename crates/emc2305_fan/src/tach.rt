@@ -6,6 +6,7 @@ use crate::{CONFIGURATION_1, Fan, LOOP, READING_HIGH, READING_LOW, SETTING};
 
 impl Fan {
     // A tach sample, told whether the power-up watch runs. Of a count past 8191 the low 13 bits are taken.
+    #[tactic(auto, unfolding(crate::specs::Tach::sampled))]
     pub fn sample(self, count: u16, power_up_watch: bool) -> Fan
         ensures { result ≡ sampled count power_up_watch self }
     {
@@ -19,6 +20,7 @@ impl Fan {
     }
 
     // The reading registers are the count times 8.
+    #[tactic(auto, unfolding(crate::specs::Tach::with_reading))]
     fn with_reading(mut self, count: u16) -> Fan
         ensures { result ≡ with_reading count self }
     {
@@ -43,6 +45,7 @@ impl Fan {
     }
 
     // A stall sets the 25h bit, and in closed loop starts a spin-up.
+    #[tactic(auto, unfolding(crate::specs::Tach::stall))]
     fn stall(mut self) -> Fan
         ensures { result ≡ stall self }
     {
@@ -55,6 +58,7 @@ impl Fan {
     }
 
     // What the watchdog does to a fan when it fires. It is no stored write.
+    #[tactic(auto, unfolding(crate::specs::Tach::fired))]
     pub fn fired(mut self) -> Fan
         ensures { result ≡ fired self }
     {

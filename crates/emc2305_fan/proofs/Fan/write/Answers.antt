@@ -1,0 +1,134 @@
+use Rattle.std.proofs.Common.{◌≡◌, ℕ, ◌+◌, Bool, true, false, ◌||◌, List, get_or, drop, arith, refl, sym, ap, ◌∙◌}
+use mathlib.Core.Bool.{or-false}
+use Rattle.std.proofs.Math.ListN.{drop_of_length-le}
+use Rattle.emc2305_fan.specs.Registers.{closed_loop}
+use Rattle.emc2305_fan.specs.Stored.{put, wish_taken, clock_set, settled, takes, byte_taken, bytes_taken, bytes_program}
+use Rattle.emc2305_fan.proofs.Steps.{settles_spin, settles_out, held_ends, held_on, sets_start, sets_ramp, sets_goal}
+use Rattle.emc2305_fan.proofs.Taken.{takes_wish, leaves_wish, clears, leaves_clock, stored, refused, past_last, taken_next, programs_next}
+use Rattle.emc2305_fan.proofs.Fan.write.Goals as goal
+use Rattle.emc2305_fan.proofs.Fan.write.Goals.{then-turned_on, else-turned_on, then-clears_clock, else-clears_clock, then-fan+then-goal-eq0, then-fan+else-goal-eq0, else-fan+then-spin_starts, else-fan+else-spin_starts+then-not-under_ramp, else-fan+else-spin_starts+else-not-under_ramp}
+
+pub loop-i-init : goal.loop-i-init
+loop-i-init c =
+    let a = c.args in
+    let first : a.first + 0 ≡ a.first = omega arith in
+    record {
+      within = omega arith;
+      taken = ap (λ (o : ℕ). bytes_taken a.locked o a.bytes.now a.self) first;
+      program = ap (λ (o : ℕ). bytes_program a.locked o a.bytes.now a.self) first;
+    }
+
+pub returns-then-offset-gt-LAST-clause-fan_value :
+    goal.returns-then-offset-gt-LAST-clause-fan_value
+returns-then-offset-gt-LAST-clause-fan_value c =
+    let past = past_last c.args.locked (c.args.first + c.loop-i.i) (drop c.loop-i.i c.args.bytes.now) c.loop-i.fan (omega arith) in
+    c.left.ensures.0 ∙ sym past.0 ∙ c.loop-i.invariant.taken
+
+pub returns-then-offset-gt-LAST-clause-programmed_value :
+    goal.returns-then-offset-gt-LAST-clause-programmed_value
+returns-then-offset-gt-LAST-clause-programmed_value c =
+    let past = past_last c.args.locked (c.args.first + c.loop-i.i) (drop c.loop-i.i c.args.bytes.now) c.loop-i.fan (omega arith) in
+    c.left.ensures.1 ∙ sym (or-false c.loop-i.programmed)
+    ∙ ap (λ (t : Bool). c.loop-i.programmed || t) (sym past.1)
+    ∙ c.loop-i.invariant.program
+
+-- a byte that is not taken changes nothing
+pub loop-i-preserved-then-not-takes : goal.loop-i-preserved-then-not-takes
+loop-i-preserved-then-not-takes c =
+    let l = c.loop-i in
+    let a = c.args in
+    let no : takes a.locked l.fan (a.first + l.i) ≡ false = sym c.takes.ensures ∙ c.if-not-takes.true in
+    let still = refused a.locked (a.first + l.i) (get_or a.bytes.now l.i 0) l.fan no in
+    record {
+      within = omega arith;
+      taken = taken_next a.locked a.first l.i a.bytes.now l.fan l.fan c.loop-i-test.true still ∙ l.invariant.taken;
+      program =
+          programs_next a.locked a.first l.i a.bytes.now l.fan l.fan c.loop-i-test.true still l.programmed l.programmed
+          (rw no (sym (or-false l.programmed))) ∙ l.invariant.program;
+    }
+
+-- the fan after the byte, with its wish
+at_wish : (c : goal.Joined-fan)
+    → c.if-turned_on.fan
+    ≡ wish_taken (closed_loop c.loop-i.fan) (put (c.args.first + c.loop-i.i) (get_or c.args.bytes.now c.loop-i.i 0) c.loop-i.fan)
+at_wish c =
+    let was = c.closed_loop-was_closed.result in
+    let f = put (c.args.first + c.loop-i.i) (get_or c.args.bytes.now c.loop-i.i 0) c.loop-i.fan in
+    let e : c.if-turned_on.fan ≡ wish_taken was f =
+    elim c.if-turned_on.branch [
+      | then-turned_on w ↦ w.fan-is ∙ takes_wish was f (sym c.turned_on.ensures ∙ w.if-turned_on.true)
+      | else-turned_on w ↦ w.fan-is ∙ leaves_wish was f (sym c.turned_on.ensures ∙ w.if-turned_on.false)
+    ] in
+    e ∙ ap (λ (t : Bool). wish_taken t f) c.closed_loop-was_closed.ensures
+
+-- and with its clock
+at_clock : (c : goal.Joined-fan)
+    → c.if-clears_clock.fan
+    ≡ clock_set (c.args.first + c.loop-i.i)
+    (wish_taken (closed_loop c.loop-i.fan) (put (c.args.first + c.loop-i.i) (get_or c.args.bytes.now c.loop-i.i 0) c.loop-i.fan))
+at_clock c =
+    let o = c.args.first + c.loop-i.i in
+    let f = c.if-turned_on.fan in
+    let e : c.if-clears_clock.fan ≡ clock_set o f =
+    elim c.if-clears_clock.branch [
+      | then-clears_clock w ↦ w.fan-is ∙ clears o f (sym c.clears_clock.ensures ∙ w.if-clears_clock.true)
+      | else-clears_clock w ↦ w.fan-is ∙ leaves_clock o f (sym c.clears_clock.ensures ∙ w.if-clears_clock.false)
+    ] in
+    e ∙ ap (clock_set o) (at_wish c)
+
+-- and with spin-up and drive
+at_rest : (c : goal.Joined-fan) → c.if-fan.fan ≡ settled c.if-clears_clock.fan
+at_rest c =
+    let f = c.if-clears_clock.fan in
+    elim c.if-fan.branch [
+      | then-fan+then-goal-eq0 w ↦
+          w.fan-is ∙ w.end-fan.ensures ∙ sym (settles_spin f w.if-fan.true ∙ held_ends f (sym w.goal.ensures ∙ w.if-goal-eq0.true))
+      | then-fan+else-goal-eq0 w ↦ w.fan-is ∙ sym (settles_spin f w.if-fan.true ∙ held_on f (λ e. w.if-goal-eq0.false (w.goal.ensures ∙ e)))
+      | else-fan+then-spin_starts w ↦
+          w.fan-is ∙ w.start-fan.ensures ∙ sym (settles_out f w.if-fan.false ∙ sets_start f (sym w.spin_starts.ensures ∙ w.if-spin_starts.true))
+      | else-fan+else-spin_starts+then-not-under_ramp w ↦
+          w.fan-is
+          ∙ rw w.goal-goal.ensures
+          (sym
+          (settles_out f w.if-fan.false
+          ∙ sets_goal f (sym w.spin_starts.ensures ∙ w.if-spin_starts.false) (sym w.under_ramp.ensures ∙ w.if-not-under_ramp.true)))
+      | else-fan+else-spin_starts+else-not-under_ramp w ↦
+          w.fan-is
+          ∙ sym
+          (settles_out f w.if-fan.false
+          ∙ sets_ramp f (sym w.spin_starts.ensures ∙ w.if-spin_starts.false) (sym w.under_ramp.ensures ∙ w.if-not-under_ramp.false))
+    ]
+
+-- a byte that is taken
+pub loop-i-preserved : goal.loop-i-preserved
+loop-i-preserved c =
+    let l = c.loop-i in
+    let a = c.args in
+    let byte = get_or a.bytes.now l.i 0 in
+    let yes : takes a.locked l.fan (a.first + l.i) ≡ true = sym c.takes.ensures ∙ c.if-not-takes.false in
+    let wrote : c.if-fan.fan ≡ byte_taken a.locked (a.first + l.i) byte l.fan =
+    at_rest c ∙ ap settled (at_clock c) ∙ stored a.locked (a.first + l.i) byte l.fan yes in
+    record {
+      within = omega arith;
+      taken = taken_next a.locked a.first l.i a.bytes.now l.fan c.if-fan.fan c.loop-i-test.true wrote ∙ l.invariant.taken;
+      program =
+          programs_next a.locked a.first l.i a.bytes.now l.fan c.if-fan.fan c.loop-i-test.true wrote l.programmed
+          (l.programmed || c.programs-programmed.result) (rw (c.programs-programmed.ensures, yes) refl) ∙ l.invariant.program;
+    }
+
+-- at the end no byte is left
+pub returns-clause-fan_value : goal.returns-clause-fan_value
+unfolding bytes_taken
+returns-clause-fan_value c =
+    let over = drop_of_length-le c.args.bytes.now {i = c.loop-i.i} (omega arith) in
+    c.left-2.ensures.0
+    ∙ ap (λ (b : List ℕ). bytes_taken c.args.locked (c.args.first + c.loop-i.i) b c.loop-i.fan) (sym over)
+    ∙ c.loop-i.invariant.taken
+
+pub returns-clause-programmed_value : goal.returns-clause-programmed_value
+unfolding bytes_program
+returns-clause-programmed_value c =
+    let over = drop_of_length-le c.args.bytes.now {i = c.loop-i.i} (omega arith) in
+    c.left-2.ensures.1 ∙ sym (or-false c.loop-i.programmed)
+    ∙ ap (λ (b : List ℕ). c.loop-i.programmed || bytes_program c.args.locked (c.args.first + c.loop-i.i) b c.loop-i.fan) (sym over)
+    ∙ c.loop-i.invariant.program
