@@ -23,16 +23,16 @@ use Rattle.emc2305_fan.specs.Tach.{sampled}
 use Rattle.emc2305_fan.specs.Status.{bit_read}
 use Rattle.emc2305_fan.proofs.Kept.{registers_after}
 use Rattle.emc2305_fan.proofs.Statuses.{status_read}
-use Rattle.emc2305_watchdog.specs.Watch.{fires}
+use Rattle.emc2305_watchdog.specs.Watch.{fires, in_power_up}
 use Rattle.emc2305_chip.specs.declared.Chip.{Chip}
 use Rattle.emc2305_chip.specs.declared.Register.{Register}
 use Rattle.emc2305_chip.specs.declared.Own.{Own}
 use Rattle.emc2305_chip.specs.declared.Own.TheVariants.{Configuration, Status, StallStatus, SpinStatus, DriveFailStatus, Enable, Output, Lock, Identity}
 use Rattle.emc2305_chip.specs.declared.Register.TheVariants.{OfFan, OfChip, Undefined}
-use Rattle.emc2305_chip.specs.State.{fan_count, with_pointer}
+use Rattle.emc2305_chip.specs.State.{fan_count, with_pointer, with_expired, with_fans, with_enable, with_outputs}
 use Rattle.emc2305_chip.specs.Fans.{no_fan, fan_at}
 use Rattle.emc2305_chip.specs.Watching.{fed_chip}
-use Rattle.emc2305_chip.specs.Registers.{own_shown, shown_of, is_locked, own_guarded, guarded, register_at, writable, stores_in, fan_stored, shown_at, stores_at, written_at}
+use Rattle.emc2305_chip.specs.Registers.{on_fan, own_shown, shown_of, is_locked, own_guarded, guarded, register_at, writable, stores_in, fan_stored, shown_at, stores_at, written_at}
 use Rattle.emc2305_chip.specs.Ticks.{chip_ticked}
 use Rattle.emc2305_chip.proofs.Moves.{stored_keeps, written_keeps, tick_move, tick_fans, tick_rest}
 use Rattle.emc2305.specs.Transfers.{byte_written, in_turn, sent, read_out}
@@ -125,8 +125,9 @@ tick_same c = same c (chip_ticked c) (tick_rest c).0 (tick_rest c).1 (λ i o l. 
 
 read_same : (n : ℕ) (c : Chip) → Same c (read_out n c)
 read_same n c register g =
-    read_keeps (λ (d : Chip). shown_of d register) n c (λ d p. aside d _ refl refl refl register g) (λ d. aside d _ refl refl refl register g)
-    (λ d which. same d _ refl refl (λ i o l. all_still o l (fan_count d) (bit_read which) (read_still o l which) d.fans i) register g)
+    read_keeps (λ (d : Chip). shown_of d register) n c (λ d p. aside d (with_pointer p d) refl refl refl register g)
+    (λ d. aside d (with_expired false d) refl refl refl register g)
+    (λ d which. same d (with_fans (first_moved (fan_count d) (bit_read which) d.fans) d) refl refl (λ i o l. all_still o l (fan_count d) (bit_read which) (read_still o l which) d.fans i) register g)
 
 -- a write that is stored while locked is to no guarded register
 unguarded : (c : Chip) → is_locked c ≡ true → (register : Register) → stores_in c register ≡ true → not (guarded register) ≡ true
@@ -138,14 +139,14 @@ write_same : (n byte : ℕ) (c : Chip) → is_locked c ≡ true → Same c (byte
 unfolding byte_written fan_stored stores_at
 write_same n byte c k register g =
     let v : Chip → ℕ = λ d. shown_of d register in
-    passed_keeps v n (written_at c.pointer byte c) (λ p. aside _ _ refl refl refl register g)
+    passed_keeps v n (written_at c.pointer byte c) (λ p. aside (written_at c.pointer byte c) (with_pointer p (written_at c.pointer byte c)) refl refl refl register g)
     ∙ written_keeps v c.pointer byte c
     (λ t.
-    stored_keeps v (λ (r : Register). not (guarded r)) byte c (λ e. absurd (false≢true e)) (aside c _ refl refl refl register g)
-    (λ j. aside c _ refl refl refl register g)
+    stored_keeps v (λ (r : Register). not (guarded r)) byte c (λ e. absurd (false≢true e)) (aside c (with_enable byte c) refl refl refl register g)
+    (λ j. aside c (with_outputs (set c.outputs j byte) c) refl refl refl register g)
     (λ j offset e.
     let free = not-true (locked offset) e in
-    same c _ refl refl (λ i o l. one_still o l j _ c.fans i (write_still o l offset byte (fan_at c.fans j) free)) register g)
+    same c (fan_stored j offset byte c) refl refl (λ i o l. one_still o l j _ c.fans i (write_still o l offset byte (fan_at c.fans j) free)) register g)
     (λ e. absurd (false≢true e)) (register_at c c.pointer) (unguarded c k (register_at c c.pointer) t))
 
 turns_same : (n : ℕ) (bytes : List ℕ) (c : Chip) → is_locked c ≡ true → Same c (in_turn n bytes c)
@@ -158,17 +159,17 @@ sent_same : (bytes : List ℕ) (c : Chip) → is_locked c ≡ true → Same c (s
 unfolding sent
 sent_same [] c k register g = refl
 sent_same (pointer ∷ rest) c k register g =
-    turns_same (length rest) rest (with_pointer pointer c) k register g ∙ aside c _ refl refl refl register g
+    turns_same (length rest) rest (with_pointer pointer c) k register g ∙ aside c (with_pointer pointer c) refl refl refl register g
 
 taken_same : (log : List ℕ) (event : Event) (c : Chip) → is_locked c ≡ true → is_power_on event ≡ false → Same c (taken log event c)
 unfolding taken
 taken_same log event c k =
     by_effect (λ (e : Event). is_power_on e ≡ false → Same c (taken log e c)) (λ e on p register g. absurd (true≢false (sym on.powers ∙ p)))
     (λ n p register g. repeated_keeps (λ (d : Chip). shown_of d register) n chip_ticked c (λ d. tick_same d register g))
-    (λ fan n p. same c _ refl refl (λ i o l. one_still o l (fan - 1) _ c.fans i (sample_still o l n _ _)))
-    (λ fan drive p. same c _ refl refl (λ i o l. one_still o l (fan - 1) _ c.fans i (wish_still o l drive _)))
-    (λ to place n p register g. read_same _ (fed_chip c) register g ∙ aside c _ refl refl refl register g)
-    (λ to place n p register g. sent_same _ (fed_chip c) k register g ∙ aside c _ refl refl refl register g)
+    (λ fan n p. same c (on_fan (fan - 1) (sampled n (in_power_up c.watch)) c) refl refl (λ i o l. one_still o l (fan - 1) _ c.fans i (sample_still o l n _ _)))
+    (λ fan drive p. same c (on_fan (fan - 1) (wished drive) c) refl refl (λ i o l. one_still o l (fan - 1) _ c.fans i (wish_still o l drive _)))
+    (λ to place n p register g. read_same _ (fed_chip c) register g ∙ aside c (fed_chip c) refl refl refl register g)
+    (λ to place n p register g. sent_same _ (fed_chip c) k register g ∙ aside c (fed_chip c) refl refl refl register g)
     (λ e idle p register g. ap (λ (d : Chip). shown_of d register) (idle.leaves log c)) event
 
 pub locked_kept : Locked

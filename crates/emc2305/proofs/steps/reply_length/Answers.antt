@@ -1,0 +1,7 @@
+-- `emc2305::steps::reply_length` meets its contract.
+use Rattle.emc2305.proofs.Ranged.{clocked_within}
+use Rattle.emc2305.proofs.steps.reply_length.Goals as goal
+
+pub bounds-log-place : goal.bounds-log-place
+bounds-log-place c =
+    clocked_within _ _ c.requires _ _ _ _ c.in-Transfer.is c.if-reads.true
