@@ -1,5 +1,5 @@
 -- The limit of a report: how many records it takes, and when it ends with 14 (specs/Promises.antt).
-use Rattle.std.proofs.Common.{◌≡◌, ℕ, ◌+◌, ◌-◌, ◌<◌, Bool, true, false, eqb, ltb, leb, List, [], ◌∷◌, ◌++◌, length, take, sym, refl, ap, ◌∙◌, true≢false, append_assoc, append-nil, arith, length-append, ltb-true, lt-ltb, eqb-true, le-leb, leb-true}
+use Rattle.std.proofs.Common.{◌≡◌, ℕ, ◌+◌, ◌<◌, Bool, true, false, eqb, ltb, leb, List, [], ◌∷◌, ◌++◌, length, take, sym, refl, ap, ◌∙◌, true≢false, append_assoc, append-nil, arith, length-append, ltb-true, lt-ltb, eqb-true, le-leb, leb-true}
 use lib.Seq.{take-append_seam}
 use borrow.Author.Tests.{eqb-false}
 use Rattle.laws.proofs.Tests.{by_test}
