@@ -92,7 +92,7 @@ made i d g s u p c (h ∷ rest) r q =
     let f = first_rest emc2305 (undisturbed i) h rest c q in
     rw (
       in_event i d g s u p c r h f.0,
-      made i _ g s u _ (next h c) rest (of_event_lem i d g s u p h c r f.0) f.1,
+      made i (moved d g (s * ((p + n) / u))) g s u ((p + n) % u) (next h c) rest (of_event_lem i d g s u p h c r f.0) f.1,
       ← add_assoc p n t,
       div_then (p + n) t u (omega arith),
     )

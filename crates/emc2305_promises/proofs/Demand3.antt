@@ -36,5 +36,6 @@ unfolding any.after_all any.taken_ticks
 ramp_promise i d g s u p c [] r q = no_ticks i d g s u p c r
 ramp_promise i d g s u p c (h ∷ rest) r q =
     let f = first_rest emc2305 (undisturbed i) h rest c q in
-    and_then (cond (is_taken h c) (ticks_of h.event) 0) (taken_ticks rest (next h c)) i d g s u p (after_all rest (next h c))
-    (ramp_promise i _ g s u _ (next h c) rest (of_event_lem i d g s u p h c r f.0) f.1)
+    let m : ℕ = cond (is_taken h c) (ticks_of h.event) 0 in
+    and_then m (taken_ticks rest (next h c)) i d g s u p (after_all rest (next h c))
+    (ramp_promise i (moved d g (s * ((p + m) / u))) g s u ((p + m) % u) (next h c) rest (of_event_lem i d g s u p h c r f.0) f.1)
