@@ -20,6 +20,7 @@ impl Asked {
 
 impl Registers {
     // What the output is asked for, with START, OVRID and the three zones.
+    #[tactic(auto, unfolding(crate::specs::Duty::asked))]
     pub fn asked(self, start: bool, overridden: bool, zones: [Zone; 3]) -> Asked
         ensures { result ≡ asked start overridden self zones }
     {
@@ -32,6 +33,7 @@ impl Registers {
         self.by_mode(zones)
     }
 
+    #[tactic(auto, unfolding(crate::specs::Duty::by_mode))]
     fn by_mode(self, zones: [Zone; 3]) -> Asked
         ensures { result ≡ by_mode (mode_of self) self zones }
     {
@@ -45,6 +47,7 @@ impl Registers {
     }
 }
 
+#[tactic(auto, unfolding(crate::specs::Duty::automatic))]
 fn automatic(mode: u8, minimum: u8, zones: [Zone; 3]) -> Asked
     ensures { result ≡ automatic mode minimum zones }
 {
@@ -58,6 +61,7 @@ fn automatic(mode: u8, minimum: u8, zones: [Zone; 3]) -> Asked
 }
 
 // Whether any of the three zones, linked or not, is at its absolute limit.
+#[tactic(auto, unfolding(crate::specs::Duty::limit_reached))]
 fn limit_reached(zones: [Zone; 3]) -> bool
     ensures { result ≡ limit_reached zones }
 {
@@ -68,6 +72,7 @@ fn limit_reached(zones: [Zone; 3]) -> bool
 }
 
 // Whether a linked zone is at 80h.
+#[tactic(auto, unfolding(crate::specs::Duty::linked_fault))]
 fn linked_fault(mode: u8, zones: [Zone; 3]) -> bool
     ensures { result ≡ linked_fault mode zones }
 {
@@ -82,6 +87,7 @@ fn fault_by(mode: u8, place: u8, zone: Zone) -> bool
 }
 
 // The largest duty that a linked zone asks: the hottest zone is the one that asks most.
+#[tactic(auto, unfolding(crate::specs::Duty::linked_duty))]
 fn linked_duty(mode: u8, minimum: u8, zones: [Zone; 3]) -> u8
     ensures { result ≡ linked_duty mode minimum zones }
 {
@@ -103,6 +109,7 @@ fn asked_by(mode: u8, place: u8, minimum: u8, zone: Zone) -> u8
 }
 
 // Whether the mode links the zone, by its place from 0.
+#[tactic(auto, unfolding(crate::specs::Duty::is_linked))]
 fn is_linked(mode: u8, place: u8) -> bool
     ensures { result ≡ is_linked mode place }
 {

@@ -21,6 +21,7 @@ impl Zone {
     }
 
     // Whether the zone is at or above its absolute limit, where it has one.
+    #[tactic(auto, unfolding(crate::specs::Zones::at_limit))]
     pub fn at_limit(self) -> bool
         ensures { result ≡ at_limit self }
     {
@@ -32,6 +33,7 @@ impl Zone {
     }
 
     // The duty that the zone asks of an output with this minimum.
+    #[tactic(auto, unfolding(crate::specs::Zones::zone_asks))]
     pub fn asks(self, minimum: u8) -> u8
         ensures { result ≡ zone_asks minimum self }
     {
@@ -62,6 +64,7 @@ impl Zone {
 }
 
 // How many degrees the temperature of a signed byte lies above -128.
+#[tactic(auto, unfolding(crate::specs::Zones::above_least))]
 fn above_least(byte: u8) -> u8
     ensures { result ≡ above_least byte }
 {

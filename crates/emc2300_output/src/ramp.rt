@@ -81,6 +81,7 @@ pub fn rate(registers: Registers) -> u8
 }
 
 // Whether the duty goes to the goal by steps: never to full or off, nor to 0 with SZEN.
+#[tactic(auto, unfolding(crate::specs::Ramp::ramp_control))]
 pub fn under_ramp(registers: Registers, asked: Asked) -> bool
     ensures { result ≡ ramp_control registers asked }
 {

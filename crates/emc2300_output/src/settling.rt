@@ -12,6 +12,7 @@ const LENGTHS: [u16; 8] = [0, 8, 20, 32, 56, 80, 160, 320];
 
 impl Output {
     // After a stored write, a soft reset and a kept temperature sample.
+    #[tactic(auto, unfolding(crate::specs::Settling::settled))]
     pub fn settle(self, registers: Registers, asked: Asked) -> Output
         ensures { result ≡ settled registers asked self }
     {
@@ -23,6 +24,7 @@ impl Output {
     }
 
     // A duty is asked.
+    #[tactic(auto, unfolding(crate::specs::Settling::settled))]
     fn toward(self, registers: Registers, goal: u8) -> Output
         ensures { result ≡ settled registers (Duty goal) self }
     {
@@ -42,6 +44,7 @@ impl Output {
     }
 
     // Out of a spin-up: from standstill one starts, and without ramp control the duty is the goal.
+    #[tactic(auto, unfolding(crate::specs::Settling::duty_set))]
     fn duty_set(self, length: u16, ramped: bool, goal: u8) -> Output
         ensures { result ≡ duty_set length ramped goal self }
     {
@@ -62,6 +65,7 @@ impl Output {
 }
 
 // A spin-up at its start; one of no ticks ends at once.
+#[tactic(auto, unfolding(crate::specs::Settling::started))]
 fn started(length: u16, goal: u8) -> Output
     ensures { result ≡ started length goal }
 {

@@ -10,6 +10,7 @@ use emc2300_duty::{Asked, Registers};
 
 impl Output {
     // One tick of 12.5 ms.
+    #[tactic(auto, unfolding(crate::specs::Tick::ticked))]
     pub fn tick(self, registers: Registers, asked: Asked) -> Output
         ensures { result ≡ ticked registers asked self }
     {
@@ -31,6 +32,7 @@ impl Output {
     }
 
     // A tick in a spin-up.
+    #[tactic(auto, unfolding(crate::specs::Tick::spin_ticked))]
     fn spin_tick(mut self, goal: u8) -> Output
         ensures { result ≡ spin_ticked goal self }
     {
@@ -76,6 +78,7 @@ impl Output {
     }
 
     // A spin-up that its tachs end.
+    #[tactic(auto, unfolding(crate::specs::Tick::spun_up))]
     pub fn spun_up(self, asked: Asked) -> Output
         ensures { result ≡ spun_up asked self }
     {
