@@ -6,7 +6,7 @@ use Rattle.emc2305_fan.specs.Stored.{put, wish_taken, clock_set, settled, takes,
 use Rattle.emc2305_fan.proofs.Steps.{settles_spin, settles_out, held_ends, held_on, sets_start, sets_ramp, sets_goal}
 use Rattle.emc2305_fan.proofs.Taken.{takes_wish, leaves_wish, clears, leaves_clock, stored, refused, past_last, taken_next, programs_next}
 use Rattle.emc2305_fan.proofs.Fan.write.Goals as goal
-use Rattle.emc2305_fan.proofs.Fan.write.Goals.{then-turned_on, else-turned_on, then-clears_clock, else-clears_clock, then-fan+then-goal-eq0, then-fan+else-goal-eq0, else-fan+then-spin_starts, else-fan+else-spin_starts+then-not-under_ramp, else-fan+else-spin_starts+else-not-under_ramp}
+use Rattle.emc2305_fan.proofs.Fan.write.Goals.{then-turned_on, else-turned_on, then-clears_clock, else-clears_clock}
 
 pub loop-i-init : goal.loop-i-init
 loop-i-init c =
@@ -78,26 +78,7 @@ at_clock c =
 
 -- and with spin-up and drive
 at_rest : (c : goal.Joined-fan) → c.if-fan.fan ≡ settled c.if-clears_clock.fan
-at_rest c =
-    let f = c.if-clears_clock.fan in
-    elim c.if-fan.branch [
-      | then-fan+then-goal-eq0 w ↦
-          w.fan-is ∙ w.end-fan.ensures ∙ sym (settles_spin f w.if-fan.true ∙ held_ends f (sym w.goal.ensures ∙ w.if-goal-eq0.true))
-      | then-fan+else-goal-eq0 w ↦ w.fan-is ∙ sym (settles_spin f w.if-fan.true ∙ held_on f (λ e. w.if-goal-eq0.false (w.goal.ensures ∙ e)))
-      | else-fan+then-spin_starts w ↦
-          w.fan-is ∙ w.start-fan.ensures ∙ sym (settles_out f w.if-fan.false ∙ sets_start f (sym w.spin_starts.ensures ∙ w.if-spin_starts.true))
-      | else-fan+else-spin_starts+then-not-under_ramp w ↦
-          w.fan-is
-          ∙ rw w.goal-goal.ensures
-          (sym
-          (settles_out f w.if-fan.false
-          ∙ sets_goal f (sym w.spin_starts.ensures ∙ w.if-spin_starts.false) (sym w.under_ramp.ensures ∙ w.if-not-under_ramp.true)))
-      | else-fan+else-spin_starts+else-not-under_ramp w ↦
-          w.fan-is
-          ∙ sym
-          (settles_out f w.if-fan.false
-          ∙ sets_ramp f (sym w.spin_starts.ensures ∙ w.if-spin_starts.false) (sym w.under_ramp.ensures ∙ w.if-not-under_ramp.false))
-    ]
+at_rest c = grind (arith, settles_spin, settles_out, held_ends, held_on, sets_start, sets_ramp, sets_goal)
 
 -- a byte that is taken
 pub loop-i-preserved : goal.loop-i-preserved
