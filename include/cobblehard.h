@@ -1,7 +1,7 @@
 /* Cobblehard: a proved model of the EMC2305 fan controller, and of the event logs that drive it.
  *
- * Link with libcobblehard.a, which `rt staticlib cobblehard` makes in target/staticlib/; a program that calls emc2305_speeds links with
- * libcobblehard_speeds.a too, which `rt staticlib cobblehard_speeds` makes. They are for x86-64, where size_t and places have 64 bits.
+ * Link with libcobblehard.a, which `tools/build cobblehard` makes in target/staticlib/; a program that calls emc2305_speeds links with
+ * libcobblehard_speeds.a too, which `tools/build cobblehard_speeds` makes. They are for x86-64, where size_t and places have 64 bits.
  *
  * A slice is a pointer and a length; where the length is 0 the pointer may be anything, NULL too. A pointer to a number is never NULL.
  * What is lent to one call does not overlap, numbers included; an empty slice overlaps nothing. Of a lent buffer only the bytes that are

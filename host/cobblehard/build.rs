@@ -1,4 +1,4 @@
-//! Links libcobblehard.a and libcobblehard_speeds.a, from COBBLEHARD_LIB or from where `rt staticlib` lays them.
+//! Links libcobblehard.a and libcobblehard_speeds.a, from COBBLEHARD_LIB or from where `tools/build` lays them.
 use std::env;
 use std::path::{Path, PathBuf};
 
@@ -17,7 +17,7 @@ fn main() {
         println!("cargo:rerun-if-changed={}", library.display());
         if !library.is_file() {
             panic!(
-                "{} is not there: make it with `rt staticlib {name}` in the root of the repository, \
+                "{} is not there: make it with `tools/build {name}` in the root of the repository, \
                  or set COBBLEHARD_LIB to the folder that has it",
                 library.display()
             );

@@ -57,7 +57,7 @@
 //! # Ok::<(), cobblehard::Refusal>(())
 //! ```
 //!
-//! It needs libcobblehard.a and libcobblehard_speeds.a, which `rt staticlib` makes of the crates of these names; see build.rs.
+//! It needs libcobblehard.a and libcobblehard_speeds.a, which `tools/build` makes of the crates of these names; see build.rs.
 
 #[cfg(not(all(target_arch = "x86_64", target_os = "linux", target_pointer_width = "64")))]
 compile_error!("libcobblehard.a is for Linux on x86-64");

@@ -166,7 +166,7 @@ pub struct Proved {
 }
 
 impl Proved {
-    /// With the programs where `rt check` lays them, or at COBBLEHARD_PROGRAM and COBBLEHARD_SPEEDS; in words, where one is
+    /// With the programs where `tools/build` lays them, or at COBBLEHARD_PROGRAM and COBBLEHARD_SPEEDS; in words, where one is
     /// not there.
     pub fn built() -> Result<Proved, String> {
         Ok(Proved {
@@ -188,7 +188,7 @@ fn built(name: &str, variable: &str) -> Result<PathBuf, String> {
         Ok(program)
     } else {
         Err(format!(
-            "{} is not there: `rt check {name}` makes it",
+            "{} is not there: `tools/build {name}` makes it",
             program.display()
         ))
     }
