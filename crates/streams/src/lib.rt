@@ -3,6 +3,7 @@
 #![tactic(auto)]
 
 ghost use Rattle.std.specs.Prelude.{◌≡◌, true, ◌+◌, ◌-◌, ◌≤◌, length, take};
+ghost use Rattle.std.specs.Io.KnownBytes.{Appends};
 ghost use Rattle.laws.specs.Buffer.{bytes_at};
 ghost use Rattle.streams.specs.Served.{begun, Moved, ReadOn, Served};
 ghost use Rattle.streams.specs.Arguments.{help_word, Asked, IsPrefixLen};
@@ -154,7 +155,8 @@ pub fn write_out<W: Write, E: Write>(
     text: &[u8],
     what: &[u8],
 ) -> bool
-    ensures { length text.now ≡ 0 → result ≡ true }
+    ensures empty { length text.now ≡ 0 → result ≡ true }
+    ensures whole { result ≡ true → Appends (W.contents output.old) (W.contents output.new) text.now }
 {
     taken(output, errors, text, what) >= text.len()
 }
@@ -162,7 +164,8 @@ pub fn write_out<W: Write, E: Write>(
 // How many bytes of a text the output takes: all, or those before a write that fails, which is told. A write that a signal interrupts is tried again. A
 // proved loop ends, and nothing says that signals do: it has more turns than they use up.
 fn taken<W: Write, E: Write>(output: &mut W, errors: &mut E, text: &[u8], what: &[u8]) -> usize
-    ensures { result ≤ length text.now }
+    ensures within { result ≤ length text.now }
+    ensures bytes { Appends (W.contents output.old) (W.contents output.new) (take result text.now) }
 {
     let mut done = 0;
     for _ in 0..u64::MAX {
