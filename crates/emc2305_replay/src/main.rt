@@ -42,7 +42,7 @@ docs/LOG.md describes the log and the lines.
 
 // Says why a file is not listed.
 fn refuse(rt: &HostRuntime, name: &[u8], error: io::Error) {
-    streams::fail(&mut rt.stderr(), name, error);
+    let _ = streams::fail(&mut rt.stderr(), name, error);
 }
 
 // Lists the log in a file. What goes wrong with it is said with its name.

@@ -3,6 +3,7 @@ use Rattle.std.proofs.Common.{ℕ, ◌+◌, List, ◌++◌, take, drop, ap, sym,
 use Rattle.std.proofs.Math.Seq.{take-add}
 use Rattle.std.specs.Prelude.{Option, None, Some}
 use Rattle.std.specs.Io.KnownBytes.{Appends, Keeps}
+use Rattle.streams.specs.Said.{SaysBehind}
 use Rattle.laws.proofs.Buffer.{lent_from, lent_is}
 
 pub still_held : (a b c : Option (List ℕ)) (text : List ℕ) → Appends a b text → Keeps b c → Appends a c text
@@ -23,3 +24,14 @@ more_held (Some xs) (Some ys) (Some zs) text done put h k =
     ∙ ap (λ (l : List ℕ). l ++ take put (drop done text)) h
     ∙ append_assoc xs (take done text) (take put (drop done text))
     ∙ ap (λ (l : List ℕ). xs ++ l) (sym (take-add done put text))
+
+-- one text behind another
+appended : (a b c : Option (List ℕ)) (s t : List ℕ) → Appends a b s → Appends b c t → Appends a c (s ++ t)
+appended None b c s t h k = tt
+appended (Some xs) None c s t h k = absurd h
+appended (Some xs) (Some ys) None s t h k = absurd k
+appended (Some xs) (Some ys) (Some zs) s t h k = k ∙ ap (λ (l : List ℕ). l ++ t) h ∙ append_assoc xs s t
+
+-- four texts, one behind the other
+pub says_behind : (a b c d e : Option (List ℕ)) (what s t u : List ℕ) → Appends a b what → Appends b c s → Appends c d t → Appends d e u → SaysBehind a e what
+says_behind a b c d e what s t u h i j k = (s ++ (t ++ u), appended a b e what (s ++ (t ++ u)) h (appended b c e s (t ++ u) i (appended c d e t u j k)))

@@ -2,10 +2,11 @@
 // What the system gives and takes comes through std's traits, which a clause knows little of: so only programs use it.
 #![tactic(auto)]
 
-ghost use Rattle.std.specs.Prelude.{◌≡◌, true, ◌+◌, ◌-◌, ◌≤◌, length, take};
+ghost use Rattle.std.specs.Prelude.{◌≡◌, true, ◌+◌, ◌-◌, ◌≤◌, length, take, OnOk};
 ghost use Rattle.std.specs.Io.KnownBytes.{Appends};
 ghost use Rattle.laws.specs.Buffer.{bytes_at};
 ghost use Rattle.streams.specs.Served.{begun, Moved, ReadOn, Served};
+ghost use Rattle.streams.specs.Said.{SaysBehind};
 ghost use Rattle.streams.specs.Arguments.{help_word, Asked, IsPrefixLen};
 
 use std::env::{Env, FillError};
@@ -127,11 +128,11 @@ fn read_on<R: Read, E: Write>(
     }
 }
 
-// Whether to ask again after an error: where a signal interrupted the call. Any other error is told.
+// Whether to ask again after an error: where a signal interrupted the call. Any other error is told, and lost where the errors take no more.
 fn goes_on<E: Write>(errors: &mut E, what: &[u8], error: io::Error) -> bool {
     let interrupted = error.kind() == ErrorKind::Interrupted;
     if !interrupted {
-        fail(errors, what, error);
+        let _ = fail(errors, what, error);
     }
     interrupted
 }
@@ -174,7 +175,7 @@ fn taken<W: Write, E: Write>(output: &mut W, errors: &mut E, text: &[u8], what: 
         }
         match output.write(&text[done..]) {
             Ok(0) => {
-                fail(errors, what, io::Error::from(ErrorKind::WriteZero));
+                let _ = fail(errors, what, io::Error::from(ErrorKind::WriteZero));
                 break;
             }
             Ok(put) => done += put,
@@ -188,19 +189,18 @@ fn taken<W: Write, E: Write>(output: &mut W, errors: &mut E, text: &[u8], what: 
     done
 }
 
-// Writes a line to the errors: what failed, a colon and the error's text. One that is not taken is lost.
-pub fn fail<E: Write>(errors: &mut E, what: &[u8], error: io::Error) {
-    let _ = write_failure(errors, what, error);
-}
-
-fn write_failure<E: Write>(errors: &mut E, what: &[u8], error: io::Error) -> io::Result<()> {
+// Writes a line to the errors: what failed, a colon and the error's text.
+pub fn fail<E: Write>(errors: &mut E, what: &[u8], error: io::Error) -> io::Result<()>
+    ensures { OnOk result (SaysBehind (E.contents errors.old) (E.contents errors.new) what.now) }
+{
     let mut text = [0u8; 256];
     let mut rest = &mut text[..];
     write!(rest, "{error}")?;
     errors.write_all(what)?;
     errors.write_all(b": ")?;
     errors.write_all(&text[..words_len(&text)])?;
-    errors.write_all(b"\n")
+    errors.write_all(b"\n")?;
+    Ok(())
 }
 
 // How many bytes of an error's text are the system's words, which its number follows in brackets or zeros.
