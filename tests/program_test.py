@@ -158,15 +158,19 @@ def named_files(program, folder, logs):
     (folder / "a.log").write_bytes(log)
     for word in (path, path.rjust(LONGEST_NAME, b"/"), path.rjust(1000, b"/")):
         listed(program, folder, word, log, listing)
-    for word in (b"-", b"-h", b"--", b"--help ", b"--helps", b"help", b"two words", b"\xff\xfe"):
+    for word in (b"-", b"-h", b"--", b"--help ", b"--helps", b"help", b"two words", "\u00e9\u4e2d".encode()):
         (folder / os.fsdecode(word)).write_bytes(log)
         listed(program, folder, word, log, listing)
 
 
 def unopened_files(program, folder):
-    """No listing, and a message: what is not there, is a folder or has too long a name, of which a part may be there."""
+    """No listing, and a message: what is not there, is a folder or has too long a name, of which a part may be there.
+
+    Nor is a file listed whose name is no UTF-8: the program opens files by Rattle's std, which takes a name as text.
+    """
     path = os.fsencode(folder / "a.log")
-    words = [b"", b" ", b"none", b"a.log/", b"a.log/a.log", b"a.log ", b".", b"/", os.fsencode(folder), b"x" * 256]
+    (folder / os.fsdecode(b"\xff\xfe")).write_bytes((folder / "a.log").read_bytes())
+    words = [b"", b" ", b"none", b"a.log/", b"a.log/a.log", b"a.log ", b".", b"/", os.fsencode(folder), b"x" * 256, b"\xff\xfe"]
     words += [path.rjust(LONGEST_NAME + more, b"/") for more in (1, 2, LONGEST_NAME, 90_000)]
     words += [path.rjust(LONGEST_NAME, b"/") + b"x" * more for more in (1, 2, 4096)]
     for word in words:

@@ -1,21 +1,21 @@
 // Text on standard output: numbers, the state of an output, what the zones ask.
 use crate::fields::Bench;
 use emc2300_duty::{Asked, Zone};
-use libc::STDOUT_FILENO;
+use std::io;
 
-pub fn text(bytes: &[u8]) {
-    io::write_all(STDOUT_FILENO, bytes);
+pub fn text(rt: &impl Print, bytes: &[u8]) -> io::Result<()> {
+    rt.write_all(bytes)
 }
 
 // A space, and a number in its fewest decimal digits.
-pub fn number(n: u64) {
-    text(b" ");
-    io::print_decimal(STDOUT_FILENO, n);
+pub fn number(rt: &impl Print, n: u64) -> io::Result<()> {
+    text(rt, b" ")?;
+    print!(rt; "{n}")
 }
 
 // A space, and a byte in two hexadecimal digits.
-pub fn hex(byte: u8) {
-    text(&[b' ', hex_digit(byte / 16), hex_digit(byte % 16)]);
+pub fn hex(rt: &impl Print, byte: u8) -> io::Result<()> {
+    text(rt, &[b' ', hex_digit(byte / 16), hex_digit(byte % 16)])
 }
 
 // The digit of a number below 16; '?' for any other.
@@ -29,59 +29,60 @@ fn hex_digit(n: u8) -> u8 {
     }
 }
 
-pub fn word_if(holds: bool, word: &[u8]) {
+pub fn word_if(rt: &impl Print, holds: bool, word: &[u8]) -> io::Result<()> {
     if holds {
-        text(word);
+        text(rt, word)?;
     }
+    Ok(())
 }
 
-pub fn title(words: &[u8]) {
-    text(b"# ");
-    text(words);
-    text(b"\n");
+pub fn title(rt: &impl Print, words: &[u8]) -> io::Result<()> {
+    text(rt, b"# ")?;
+    text(rt, words)?;
+    text(rt, b"\n")
 }
 
 // The rest of a state's line: seven numbers, then a word for each thing that holds.
-pub fn state(bench: Bench) {
+pub fn state(rt: &impl Print, bench: Bench) -> io::Result<()> {
     let output = bench.output;
     let registers = bench.registers();
     let asked = bench.asked();
-    text(b":");
-    number(output.duty as u64);
-    number(output.clock as u64);
-    number(output.left as u64);
-    text(b",");
-    number(output.shown() as u64);
-    number(asked.goal() as u64);
-    number(emc2300_output::rate(registers) as u64);
-    number(emc2300_output::spin_length(registers) as u64);
-    asked_for(asked);
-    word_if(emc2300_output::under_ramp(registers, asked), b" ramp");
-    word_if(output.in_spin_up(), b" spin-up");
-    text(b"\n");
+    text(rt, b":")?;
+    number(rt, output.duty as u64)?;
+    number(rt, output.clock as u64)?;
+    number(rt, output.left as u64)?;
+    text(rt, b",")?;
+    number(rt, output.shown() as u64)?;
+    number(rt, asked.goal() as u64)?;
+    number(rt, emc2300_output::rate(registers) as u64)?;
+    number(rt, emc2300_output::spin_length(registers) as u64)?;
+    asked_for(rt, asked)?;
+    word_if(rt, emc2300_output::under_ramp(registers, asked), b" ramp")?;
+    word_if(rt, output.in_spin_up(), b" spin-up")?;
+    text(rt, b"\n")
 }
 
-fn asked_for(asked: Asked) {
+fn asked_for(rt: &impl Print, asked: Asked) -> io::Result<()> {
     match asked {
-        Asked::Full => text(b" full"),
-        Asked::Off => text(b" off"),
-        Asked::Duty(_) => text(b" asked"),
+        Asked::Full => text(rt, b" full"),
+        Asked::Off => text(rt, b" off"),
+        Asked::Duty(_) => text(rt, b" asked"),
     }
 }
 
 // What each zone asks of the output, and whether it is at its absolute limit or at fault.
-pub fn zones(bench: Bench) {
+pub fn zones(rt: &impl Print, bench: Bench) -> io::Result<()> {
     let zones = bench.zones();
     let minimum = bench.registers().minimum;
-    text(b"zones");
-    zone(zones[0], minimum);
-    zone(zones[1], minimum);
-    zone(zones[2], minimum);
-    text(b"\n");
+    text(rt, b"zones")?;
+    zone(rt, zones[0], minimum)?;
+    zone(rt, zones[1], minimum)?;
+    zone(rt, zones[2], minimum)?;
+    text(rt, b"\n")
 }
 
-fn zone(zone: Zone, minimum: u8) {
-    number(zone.asks(minimum) as u64);
-    word_if(zone.at_limit(), b" limit");
-    word_if(zone.is_faulty(), b" fault");
+fn zone(rt: &impl Print, zone: Zone, minimum: u8) -> io::Result<()> {
+    number(rt, zone.asks(minimum) as u64)?;
+    word_if(rt, zone.at_limit(), b" limit")?;
+    word_if(rt, zone.is_faulty(), b" fault")
 }

@@ -2,41 +2,43 @@
 use crate::{show, wide};
 use emc2305_fan::{Bit, Fan, SpinUp, Written};
 use emc2305_parts::Part;
+use std::io;
 
 // The largest usize.
 const LARGEST: usize = 18446744073709551615;
 
 // One command: its letter and its bytes.
-pub fn act(fan: Fan, which: u8, data: &[u8]) -> Fan {
+pub fn act(rt: &impl Print, fan: Fan, which: u8, data: &[u8]) -> io::Result<Fan> {
     match which {
-        b'r' => power_on(),
-        b'l' => load(data),
-        b'w' => write(fan, offset(field(data, 0)), field(data, 1)),
-        b'b' => block(fan, data),
-        b't' => ticks(fan, field(data, 0)),
-        b'e' => each_tick(fan, field(data, 0)),
+        b'r' => power_on(rt),
+        b'l' => load(rt, data),
+        b'w' => write(rt, fan, offset(field(data, 0)), field(data, 1)),
+        b'b' => block(rt, fan, data),
+        b't' => ticks(rt, fan, field(data, 0)),
+        b'e' => each_tick(rt, fan, field(data, 0)),
         b's' => sample(
+            rt,
             fan,
             word(field(data, 0), field(data, 1)),
             field(data, 2) != 0,
         ),
-        b'v' => wish(fan, field(data, 0)),
-        b'd' => fired(fan),
-        b'c' => bit_read(fan, field(data, 0) != 0),
-        _ => tell(fan, which, data),
+        b'v' => wish(rt, fan, field(data, 0)),
+        b'd' => fired(rt, fan),
+        b'c' => bit_read(rt, fan, field(data, 0) != 0),
+        _ => tell(rt, fan, which, data),
     }
 }
 
 // The commands that leave the fan as it is.
-fn tell(fan: Fan, which: u8, data: &[u8]) -> Fan {
+fn tell(rt: &impl Print, fan: Fan, which: u8, data: &[u8]) -> io::Result<Fan> {
     match which {
-        b'#' => show::title(data),
-        b'a' => show::registers(fan),
-        b'o' => show::offsets(fan),
-        b'm' => ramp(field(data, 0), field(data, 1), field(data, 2)),
-        _ => show::text(b"?\n"),
+        b'#' => show::title(rt, data)?,
+        b'a' => show::registers(rt, fan)?,
+        b'o' => show::offsets(rt, fan)?,
+        b'm' => ramp(rt, field(data, 0), field(data, 1), field(data, 2))?,
+        _ => show::text(rt, b"?\n")?,
     }
-    fan
+    Ok(fan)
 }
 
 // A byte of a command, 0 where it has fewer.
@@ -66,15 +68,15 @@ pub fn fresh() -> Fan {
     Fan::power_on(registers)
 }
 
-fn power_on() -> Fan {
+fn power_on(rt: &impl Print) -> io::Result<Fan> {
     let fan = fresh();
-    show::text(b"reset");
-    show::state(fan);
-    fan
+    show::text(rt, b"reset")?;
+    show::state(rt, fan)?;
+    Ok(fan)
 }
 
 // A state set whole, also one that no run reaches: the registers, then the other fields in their order.
-fn load(data: &[u8]) -> Fan {
+fn load(rt: &impl Print, data: &[u8]) -> io::Result<Fan> {
     let spin = SpinUp {
         running: field(data, 19) != 0,
         ticks: field(data, 20),
@@ -91,9 +93,9 @@ fn load(data: &[u8]) -> Fan {
         stalled: field(data, 24) != 0,
         failed: field(data, 25) != 0,
     };
-    show::text(b"load");
-    show::state(fan);
-    fan
+    show::text(rt, b"load")?;
+    show::state(rt, fan)?;
+    Ok(fan)
 }
 
 fn first_sixteen(data: &[u8]) -> [u8; 16] {
@@ -105,35 +107,35 @@ fn first_sixteen(data: &[u8]) -> [u8; 16] {
 }
 
 // A write, and whether the offset stores.
-fn write(fan: Fan, offset: usize, byte: u8) -> Fan {
+fn write(rt: &impl Print, fan: Fan, offset: usize, byte: u8) -> io::Result<Fan> {
     let one = [byte];
     let next = fan.write(offset, &one[..], false).fan;
-    show::text(b"write");
-    show::wide_number(offset as u64);
-    show::hex(byte);
+    show::text(rt, b"write")?;
+    show::wide_number(rt, offset as u64)?;
+    show::hex(rt, byte)?;
     if fan.stores(offset) {
-        show::text(b" stored");
+        show::text(rt, b" stored")?;
     } else {
-        show::text(b" not stored");
+        show::text(rt, b" not stored")?;
     }
-    show::state(next);
-    next
+    show::state(rt, next)?;
+    Ok(next)
 }
 
 // Data bytes in turn: the first offset, whether the lock is on, then the bytes.
-fn block(fan: Fan, data: &[u8]) -> Fan {
+fn block(rt: &impl Print, fan: Fan, data: &[u8]) -> io::Result<Fan> {
     let first = offset(field(data, 0));
     let locked = field(data, 1) != 0;
     let written = past_two(fan, first, data, locked);
-    show::text(b"block");
-    show::wide_number(first as u64);
-    show::text(b" takes");
-    show::wide_number(written.count as u64);
-    show::word_if(locked, b" locked");
-    show::word_if(written.programmed, b" programmed");
+    show::text(rt, b"block")?;
+    show::wide_number(rt, first as u64)?;
+    show::text(rt, b" takes")?;
+    show::wide_number(rt, written.count as u64)?;
+    show::word_if(rt, locked, b" locked")?;
+    show::word_if(rt, written.programmed, b" programmed")?;
     let next = written.fan;
-    show::state(next);
-    next
+    show::state(rt, next)?;
+    Ok(next)
 }
 
 // The bytes from the third on, written.
@@ -146,12 +148,12 @@ fn past_two(fan: Fan, first: usize, data: &[u8], locked: bool) -> Written {
 }
 
 // Some ticks, and the state after them.
-fn ticks(fan: Fan, count: u8) -> Fan {
+fn ticks(rt: &impl Print, fan: Fan, count: u8) -> io::Result<Fan> {
     let next = after_ticks(fan, count);
-    show::text(b"ticks");
-    show::number(count);
-    show::state(next);
-    next
+    show::text(rt, b"ticks")?;
+    show::number(rt, count)?;
+    show::state(rt, next)?;
+    Ok(next)
 }
 
 fn after_ticks(fan: Fan, count: u8) -> Fan {
@@ -163,71 +165,71 @@ fn after_ticks(fan: Fan, count: u8) -> Fan {
 }
 
 // Some ticks, and the state after each.
-fn each_tick(fan: Fan, count: u8) -> Fan {
+fn each_tick(rt: &impl Print, fan: Fan, count: u8) -> io::Result<Fan> {
     let mut next = fan;
     for _ in 0..count {
-        next = shown_tick(next);
+        next = shown_tick(rt, next)?;
     }
-    next
+    Ok(next)
 }
 
-fn shown_tick(fan: Fan) -> Fan {
+fn shown_tick(rt: &impl Print, fan: Fan) -> io::Result<Fan> {
     let next = fan.tick();
-    show::text(b"tick");
-    show::state(next);
-    next
+    show::text(rt, b"tick")?;
+    show::state(rt, next)?;
+    Ok(next)
 }
 
-fn sample(fan: Fan, count: u16, power_up_watch: bool) -> Fan {
+fn sample(rt: &impl Print, fan: Fan, count: u16, power_up_watch: bool) -> io::Result<Fan> {
     let next = fan.sample(count, power_up_watch);
-    show::text(b"sample");
-    show::wide_number(count as u64);
+    show::text(rt, b"sample")?;
+    show::wide_number(rt, count as u64)?;
     if power_up_watch {
-        show::text(b" watch");
+        show::text(rt, b" watch")?;
     }
-    show::state(next);
-    next
+    show::state(rt, next)?;
+    Ok(next)
 }
 
-fn wish(fan: Fan, drive: u8) -> Fan {
+fn wish(rt: &impl Print, fan: Fan, drive: u8) -> io::Result<Fan> {
     let next = fan.wish(drive);
-    show::text(b"wish");
-    show::number(drive);
-    show::state(next);
-    next
+    show::text(rt, b"wish")?;
+    show::number(rt, drive)?;
+    show::state(rt, next)?;
+    Ok(next)
 }
 
-fn fired(fan: Fan) -> Fan {
+fn fired(rt: &impl Print, fan: Fan) -> io::Result<Fan> {
     let next = fan.fired();
-    show::text(b"watchdog");
-    show::state(next);
-    next
+    show::text(rt, b"watchdog")?;
+    show::state(rt, next)?;
+    Ok(next)
 }
 
 // A read of 25h, or of 26h.
-fn bit_read(fan: Fan, of_spin: bool) -> Fan {
+fn bit_read(rt: &impl Print, fan: Fan, of_spin: bool) -> io::Result<Fan> {
     let next = if of_spin {
         fan.bit_read(Bit::Spin)
     } else {
         fan.bit_read(Bit::Stall)
     };
     if of_spin {
-        show::text(b"read 26h");
+        show::text(rt, b"read 26h")?;
     } else {
-        show::text(b"read 25h");
+        show::text(rt, b"read 25h")?;
     }
-    show::state(next);
-    next
+    show::state(rt, next)?;
+    Ok(next)
 }
 
-fn ramp(drive: u8, goal: u8, step: u8) {
-    show::text(b"ramp");
-    show::number(drive);
-    show::text(b" to");
-    show::number(goal);
-    show::text(b" by");
-    show::number(step);
-    show::text(b":");
-    show::number(emc2305_fan::ramp_update(drive, goal, step));
-    show::text(b"\n");
+fn ramp(rt: &impl Print, drive: u8, goal: u8, step: u8) -> io::Result<()> {
+    show::text(rt, b"ramp")?;
+    show::number(rt, drive)?;
+    show::text(rt, b" to")?;
+    show::number(rt, goal)?;
+    show::text(rt, b" by")?;
+    show::number(rt, step)?;
+    show::text(rt, b":")?;
+    show::number(rt, emc2305_fan::ramp_update(drive, goal, step))?;
+    show::text(rt, b"\n")
 }

@@ -5,34 +5,36 @@
 mod commands;
 mod show;
 
-use libc::STDIN_FILENO;
+use std::io;
+use std::io::Read;
 
 // The most bytes of input that are read.
-const SPACE: usize = 262144;
+const SPACE: u64 = 262144;
 
-fn main() {
-    let mut space = [0u8; SPACE];
-    let len = io::read_full(STDIN_FILENO, &mut space);
-    run(&space[..len]);
+fn main(rt: HostRuntime) -> io::Result<()> {
+    let mut input = Vec::new(rt.alloc());
+    rt.stdin().take(SPACE).read_to_end(&mut input)?;
+    run(&rt, &input)
 }
 
 // A command is a byte that says which, a byte n, and n bytes. Each acts on the fan that the one before it left.
-fn run(input: &[u8]) {
+fn run(rt: &impl Print, input: &[u8]) -> io::Result<()> {
     let mut fan = commands::fresh();
     let mut at = 0;
     for _ in 0..input.len() {
         if input.len() - at < 2 {
-            return;
+            return Ok(());
         }
         let which = input[at];
         let n = wide(input[at + 1]);
         let from = at + 2;
         if input.len() - from < n {
-            return;
+            return Ok(());
         }
-        fan = commands::act(fan, which, &input[from..from + n]);
+        fan = commands::act(rt, fan, which, &input[from..from + n])?;
         at = from + n;
     }
+    Ok(())
 }
 
 pub fn wide(n: u8) -> usize {

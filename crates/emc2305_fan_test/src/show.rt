@@ -1,34 +1,37 @@
 // Text on standard output: numbers, the state of a fan, its registers.
 use emc2305_fan::{Bit, Fan};
-use libc::STDOUT_FILENO;
+use std::io;
 
 // How many offsets are asked for: two past the last register.
 const ASKED: usize = 18;
 
-pub fn text(bytes: &[u8]) {
-    io::write_all(STDOUT_FILENO, bytes);
+pub fn text(rt: &impl Print, bytes: &[u8]) -> io::Result<()> {
+    rt.write_all(bytes)
 }
 
 // A space, and a number of one byte in its fewest decimal digits.
-pub fn number(n: u8) {
+pub fn number(rt: &impl Print, n: u8) -> io::Result<()> {
     if n < 10 {
-        text(&[b' ', b'0' + n]);
+        text(rt, &[b' ', b'0' + n])
     } else if n < 100 {
-        text(&[b' ', b'0' + n / 10, b'0' + n % 10]);
+        text(rt, &[b' ', b'0' + n / 10, b'0' + n % 10])
     } else {
-        text(&[b' ', b'0' + n / 100, b'0' + n / 10 % 10, b'0' + n % 10]);
+        text(
+            rt,
+            &[b' ', b'0' + n / 100, b'0' + n / 10 % 10, b'0' + n % 10],
+        )
     }
 }
 
 // The same of a number that can be larger.
-pub fn wide_number(n: u64) {
-    text(b" ");
-    io::print_decimal(STDOUT_FILENO, n);
+pub fn wide_number(rt: &impl Print, n: u64) -> io::Result<()> {
+    text(rt, b" ")?;
+    print!(rt; "{n}")
 }
 
 // A space, and a byte in two hexadecimal digits.
-pub fn hex(byte: u8) {
-    text(&[b' ', hex_digit(byte / 16), hex_digit(byte % 16)]);
+pub fn hex(rt: &impl Print, byte: u8) -> io::Result<()> {
+    text(rt, &[b' ', hex_digit(byte / 16), hex_digit(byte % 16)])
 }
 
 // The digit of a number below 16; '?' for any other.
@@ -42,90 +45,96 @@ fn hex_digit(n: u8) -> u8 {
     }
 }
 
-pub fn word_if(holds: bool, word: &[u8]) {
+pub fn word_if(rt: &impl Print, holds: bool, word: &[u8]) -> io::Result<()> {
     if holds {
-        text(word);
+        text(rt, word)?;
     }
+    Ok(())
 }
 
-pub fn title(words: &[u8]) {
-    text(b"# ");
-    text(words);
-    text(b"\n");
+pub fn title(rt: &impl Print, words: &[u8]) -> io::Result<()> {
+    text(rt, b"# ")?;
+    text(rt, words)?;
+    text(rt, b"\n")
 }
 
 // The rest of a state's line: nine numbers, then a word for each thing that holds.
-pub fn state(fan: Fan) {
+pub fn state(rt: &impl Print, fan: Fan) -> io::Result<()> {
     let spin = fan.spin;
-    text(b":");
-    three(fan.drive, fan.wish, fan.clock);
-    text(b",");
-    three(spin.ticks, spin.length, spin.level);
-    text(b",");
-    three(fan.goal(), fan.step(), fan.period());
-    word_if(spin.running, b" running");
-    word_if(spin.kick, b" kick");
-    word_if(fan.stands(Bit::Stall), b" stalled");
-    word_if(fan.stands(Bit::Spin), b" failed");
-    word_if(fan.is_stuck(), b" stuck");
-    word_if(fan.in_spin_up(), b" spin-up");
-    word_if(fan.under_ramp(), b" ramp");
-    word_if(fan.closed_loop(), b" loop");
-    word_if(fan.driver_off(), b" off");
-    text(b"\n");
+    text(rt, b":")?;
+    three(rt, fan.drive, fan.wish, fan.clock)?;
+    text(rt, b",")?;
+    three(rt, spin.ticks, spin.length, spin.level)?;
+    text(rt, b",")?;
+    three(rt, fan.goal(), fan.step(), fan.period())?;
+    word_if(rt, spin.running, b" running")?;
+    word_if(rt, spin.kick, b" kick")?;
+    word_if(rt, fan.stands(Bit::Stall), b" stalled")?;
+    word_if(rt, fan.stands(Bit::Spin), b" failed")?;
+    word_if(rt, fan.is_stuck(), b" stuck")?;
+    word_if(rt, fan.in_spin_up(), b" spin-up")?;
+    word_if(rt, fan.under_ramp(), b" ramp")?;
+    word_if(rt, fan.closed_loop(), b" loop")?;
+    word_if(rt, fan.driver_off(), b" off")?;
+    text(rt, b"\n")
 }
 
-fn three(first: u8, second: u8, third: u8) {
-    number(first);
-    number(second);
-    number(third);
+fn three(rt: &impl Print, first: u8, second: u8, third: u8) -> io::Result<()> {
+    number(rt, first)?;
+    number(rt, second)?;
+    number(rt, third)
 }
 
 // What a read of each offset shows, and what the registers hold.
-pub fn registers(fan: Fan) {
+pub fn registers(rt: &impl Print, fan: Fan) -> io::Result<()> {
     let held = fan.registers;
-    text(b"shows");
-    shown(fan);
-    text(b" holds");
-    hexes(&held);
-    text(b"\n");
+    text(rt, b"shows")?;
+    shown(rt, fan)?;
+    text(rt, b" holds")?;
+    hexes(rt, &held)?;
+    text(rt, b"\n")
 }
 
-fn shown(fan: Fan) {
+fn shown(rt: &impl Print, fan: Fan) -> io::Result<()> {
     for offset in 0..ASKED {
-        hex(fan.register(offset));
+        hex(rt, fan.register(offset))?;
     }
+    Ok(())
 }
 
-fn hexes(bytes: &[u8]) {
+fn hexes(rt: &impl Print, bytes: &[u8]) -> io::Result<()> {
     for k in 0..bytes.len() {
-        hex(bytes[k]);
+        hex(rt, bytes[k])?;
     }
+    Ok(())
 }
 
 // Which offsets are locked, and which store now.
-pub fn offsets(fan: Fan) {
-    text(b"locked");
-    locked();
-    text(b" stores");
-    storing(fan);
-    text(b"\n");
+pub fn offsets(rt: &impl Print, fan: Fan) -> io::Result<()> {
+    text(rt, b"locked")?;
+    locked(rt)?;
+    text(rt, b" stores")?;
+    storing(rt, fan)?;
+    text(rt, b"\n")
 }
 
-fn locked() {
+fn locked(rt: &impl Print) -> io::Result<()> {
     for offset in 0..ASKED {
-        offset_if(emc2305_fan::is_locked(offset), offset);
+        offset_if(rt, emc2305_fan::is_locked(offset), offset)?;
     }
+    Ok(())
 }
 
-fn storing(fan: Fan) {
+fn storing(rt: &impl Print, fan: Fan) -> io::Result<()> {
     for offset in 0..ASKED {
-        offset_if(fan.stores(offset), offset);
+        offset_if(rt, fan.stores(offset), offset)?;
     }
+    Ok(())
 }
 
-fn offset_if(holds: bool, offset: usize) {
+fn offset_if(rt: &impl Print, holds: bool, offset: usize) -> io::Result<()> {
     if holds {
-        wide_number(offset as u64);
+        wide_number(rt, offset as u64)?;
     }
+    Ok(())
 }

@@ -3,6 +3,7 @@ use crate::{show, wide};
 use emc2305_chip::Chip;
 use emc2305_watchdog::Watch;
 use eventlog::Event;
+use std::io;
 
 // The most room that a reply is lent, and what stands there before each step.
 const SPACE: usize = 64;
@@ -30,33 +31,39 @@ pub fn start() -> Bench {
 }
 
 // One command: its letter and its bytes.
-pub fn act(bench: Bench, which: u8, data: &[u8]) -> Bench {
+pub fn act(rt: &impl Print, bench: Bench, which: u8, data: &[u8]) -> io::Result<Bench> {
     match which {
-        b'P' => happen(bench, Event::PowerOn(field(data, 0)), data),
+        b'P' => happen(rt, bench, Event::PowerOn(field(data, 0)), data),
         b'K' => happen(
+            rt,
             bench,
             Event::Ticks(word(field(data, 0), field(data, 1))),
             data,
         ),
-        b'S' => happen(bench, sample(data), data),
-        b'W' => happen(bench, wish(data), data),
-        b'X' => transfer(bench, data),
-        b'Q' => happen(bench, part(data), data),
-        b'N' => fresh(bench.room),
-        b'B' => lend(bench.chip, wide(field(data, 0))),
-        b'V' => watch(bench, field(data, 0), word(field(data, 1), field(data, 2))),
-        _ => tell(bench, which, data),
+        b'S' => happen(rt, bench, sample(data), data),
+        b'W' => happen(rt, bench, wish(data), data),
+        b'X' => transfer(rt, bench, data),
+        b'Q' => happen(rt, bench, part(data), data),
+        b'N' => fresh(rt, bench.room),
+        b'B' => lend(rt, bench.chip, wide(field(data, 0))),
+        b'V' => watch(
+            rt,
+            bench,
+            field(data, 0),
+            word(field(data, 1), field(data, 2)),
+        ),
+        _ => tell(rt, bench, which, data),
     }
 }
 
 // The commands that leave the bench as it is.
-fn tell(bench: Bench, which: u8, data: &[u8]) -> Bench {
+fn tell(rt: &impl Print, bench: Bench, which: u8, data: &[u8]) -> io::Result<Bench> {
     match which {
-        b'T' => show::title(data),
-        b'D' => show::registers(bench.chip),
-        _ => show::text(b"?\n"),
+        b'T' => show::title(rt, data)?,
+        b'D' => show::registers(rt, bench.chip)?,
+        _ => show::text(rt, b"?\n")?,
     }
-    bench
+    Ok(bench)
 }
 
 // A byte of a command, 0 where it has fewer.
@@ -100,9 +107,9 @@ fn part(data: &[u8]) -> Event {
 }
 
 // Direction, address, place, length, then the log that they point into.
-fn transfer(bench: Bench, data: &[u8]) -> Bench {
+fn transfer(rt: &impl Print, bench: Bench, data: &[u8]) -> io::Result<Bench> {
     if data.len() < HEAD {
-        return bench;
+        return Ok(bench);
     }
     let event = Event::Transfer {
         reads: data[0] != 0,
@@ -110,47 +117,53 @@ fn transfer(bench: Bench, data: &[u8]) -> Bench {
         place: far(data[2]),
         len: far(data[3]),
     };
-    happen(bench, event, &data[HEAD..])
+    happen(rt, bench, event, &data[HEAD..])
 }
 
 // One step over a freshly filled buffer, all of which is shown, after a refusal too.
-fn happen(bench: Bench, event: Event, log: &[u8]) -> Bench {
+fn happen(rt: &impl Print, bench: Bench, event: Event, log: &[u8]) -> io::Result<Bench> {
     let room = bench.room;
     if room > SPACE {
-        return bench;
+        return Ok(bench);
     }
     let mut space = [FILL; SPACE];
-    let chip = step(bench.chip, event, log, &mut space[0..room]);
-    Bench { chip, room }
+    let chip = step(rt, bench.chip, event, log, &mut space[0..room])?;
+    Ok(Bench { chip, room })
 }
 
-fn step(chip: Chip, event: Event, log: &[u8], reply: &mut [u8]) -> Chip {
+fn step(
+    rt: &impl Print,
+    chip: Chip,
+    event: Event,
+    log: &[u8],
+    reply: &mut [u8],
+) -> io::Result<Chip> {
     let answer = emc2305::step(chip, log, event, reply);
-    show::event(event, log);
-    show::named(b": ", answer.number as u64);
-    show::named(b" ", answer.laid as u64);
-    show::text(b" ");
-    show::hexes(reply);
-    show::state(answer.chip);
-    answer.chip
+    show::event(rt, event, log)?;
+    show::named(rt, b": ", answer.number as u64)?;
+    show::named(rt, b" ", answer.laid as u64)?;
+    show::text(rt, b" ")?;
+    show::hexes(rt, reply)?;
+    show::state(rt, answer.chip)?;
+    Ok(answer.chip)
 }
 
-fn fresh(room: usize) -> Bench {
-    show::text(b"new\n");
-    Bench {
+fn fresh(rt: &impl Print, room: usize) -> io::Result<Bench> {
+    show::text(rt, b"new\n")?;
+    Ok(Bench {
         chip: Chip::unpowered(),
         room,
-    }
+    })
 }
 
-fn lend(chip: Chip, room: usize) -> Bench {
-    show::named(b"room ", room as u64);
-    show::text(b"\n");
-    Bench { chip, room }
+fn lend(rt: &impl Print, chip: Chip, room: usize) -> io::Result<Bench> {
+    show::named(rt, b"room ", room as u64)?;
+    show::text(rt, b"\n")?;
+    Ok(Bench { chip, room })
 }
 
 // Sets the watch alone, also to one that no run reaches.
-fn watch(bench: Bench, kind: u8, count: u16) -> Bench {
+fn watch(rt: &impl Print, bench: Bench, kind: u8, count: u16) -> io::Result<Bench> {
     let watch = match kind {
         1 => Watch::PowerUp(count),
         2 => Watch::Continuous(count),
@@ -163,10 +176,10 @@ fn watch(bench: Bench, kind: u8, count: u16) -> Bench {
         part,
         ..before
     };
-    show::text(b"watch");
-    show::state(chip);
-    Bench {
+    show::text(rt, b"watch")?;
+    show::state(rt, chip)?;
+    Ok(Bench {
         chip,
         room: bench.room,
-    }
+    })
 }

@@ -3,50 +3,51 @@ use emc2305_chip::Chip;
 use emc2305_fan::Fan;
 use emc2305_watchdog::Watch;
 use eventlog::Event;
-use libc::STDOUT_FILENO;
+use std::io;
 
 // The sum is a remainder by this prime; each byte counts one more power of the factor.
 const PRIME: u64 = 65521;
 
 const FACTOR: u64 = 257;
 
-pub fn text(bytes: &[u8]) {
-    io::write_all(STDOUT_FILENO, bytes);
+pub fn text(rt: &impl Print, bytes: &[u8]) -> io::Result<()> {
+    rt.write_all(bytes)
 }
 
 // A word and a number after it.
-pub fn named(word: &[u8], n: u64) {
-    text(word);
-    io::print_decimal(STDOUT_FILENO, n);
+pub fn named(rt: &impl Print, word: &[u8], n: u64) -> io::Result<()> {
+    text(rt, word)?;
+    print!(rt; "{n}")
 }
 
-fn hex(byte: u8) {
-    io::print_hex(STDOUT_FILENO, byte as u64, 2);
+fn hex(rt: &impl Print, byte: u8) -> io::Result<()> {
+    print!(rt; "{byte:02x}")
 }
 
 // Two digits a byte, or '-' where there is none.
-pub fn hexes(bytes: &[u8]) {
+pub fn hexes(rt: &impl Print, bytes: &[u8]) -> io::Result<()> {
     if bytes.len() == 0 {
-        text(b"-");
+        text(rt, b"-")?;
     }
     for k in 0..bytes.len() {
-        hex(bytes[k]);
+        hex(rt, bytes[k])?;
     }
+    Ok(())
 }
 
-pub fn title(words: &[u8]) {
-    text(b"# ");
-    text(words);
-    text(b"\n");
+pub fn title(rt: &impl Print, words: &[u8]) -> io::Result<()> {
+    text(rt, b"# ")?;
+    text(rt, words)?;
+    text(rt, b"\n")
 }
 
 // An event, a transfer with the whole log that was lent.
-pub fn event(event: Event, log: &[u8]) {
+pub fn event(rt: &impl Print, event: Event, log: &[u8]) -> io::Result<()> {
     match event {
-        Event::PowerOn(address) => named(b"power-on ", address as u64),
-        Event::Ticks(count) => named(b"ticks ", count as u64),
-        Event::Sample { fan, count } => pair(b"sample ", fan, count),
-        Event::Wish { fan, drive } => pair(b"wish ", fan, drive as u16),
+        Event::PowerOn(address) => named(rt, b"power-on ", address as u64),
+        Event::Ticks(count) => named(rt, b"ticks ", count as u64),
+        Event::Sample { fan, count } => pair(rt, b"sample ", fan, count),
+        Event::Wish { fan, drive } => pair(rt, b"wish ", fan, drive as u16),
         Event::Transfer {
             reads,
             address,
@@ -54,66 +55,66 @@ pub fn event(event: Event, log: &[u8]) {
             len,
         } => {
             if reads {
-                named(b"clock ", address as u64);
+                named(rt, b"clock ", address as u64)?;
             } else {
-                named(b"send ", address as u64);
+                named(rt, b"send ", address as u64)?;
             }
-            named(b" ", place as u64);
-            named(b" ", len as u64);
-            text(b" ");
-            hexes(log);
+            named(rt, b" ", place as u64)?;
+            named(rt, b" ", len as u64)?;
+            text(rt, b" ")?;
+            hexes(rt, log)
         }
-        Event::PowerOnPart { address, fans } => pair(b"part-on ", address, fans as u16),
+        Event::PowerOnPart { address, fans } => pair(rt, b"part-on ", address, fans as u16),
     }
 }
 
-fn pair(word: &[u8], first: u8, second: u16) {
-    named(word, first as u64);
-    named(b" ", second as u64);
+fn pair(rt: &impl Print, word: &[u8], first: u8, second: u16) -> io::Result<()> {
+    named(rt, word, first as u64)?;
+    named(rt, b" ", second as u64)
 }
 
 // The rest of a line: pointer, watch, drives, the sum of all that is seen, the alert line.
-pub fn state(chip: Chip) {
+pub fn state(rt: &impl Print, chip: Chip) -> io::Result<()> {
     if chip.powered {
-        powered(chip);
+        powered(rt, chip)
     } else {
-        text(b", unpowered\n");
+        text(rt, b", unpowered\n")
     }
 }
 
-fn powered(chip: Chip) {
-    text(b", ");
-    hex(chip.pointer);
+fn powered(rt: &impl Print, chip: Chip) -> io::Result<()> {
+    text(rt, b", ")?;
+    hex(rt, chip.pointer)?;
     let running = chip.watch;
-    watch(running);
-    text(b",");
-    drives(chip);
-    named(b", ", sum(chip));
+    watch(rt, running)?;
+    text(rt, b",")?;
+    drives(rt, chip)?;
+    named(rt, b", ", sum(chip))?;
     if chip.alert() {
-        text(b" alert");
+        text(rt, b" alert")?;
     }
-    text(b"\n");
+    text(rt, b"\n")
 }
 
-fn watch(watch: Watch) {
+fn watch(rt: &impl Print, watch: Watch) -> io::Result<()> {
     match watch {
-        Watch::Off => text(b" off"),
-        Watch::PowerUp(count) => named(b" power-up ", count as u64),
-        Watch::Continuous(count) => named(b" continuous ", count as u64),
+        Watch::Off => text(rt, b" off"),
+        Watch::PowerUp(count) => named(rt, b" power-up ", count as u64),
+        Watch::Continuous(count) => named(rt, b" continuous ", count as u64),
     }
 }
 
-fn drives(chip: Chip) {
+fn drives(rt: &impl Print, chip: Chip) -> io::Result<()> {
     let fans = chip.fans;
-    drive(fans[0]);
-    drive(fans[1]);
-    drive(fans[2]);
-    drive(fans[3]);
-    drive(fans[4]);
+    drive(rt, fans[0])?;
+    drive(rt, fans[1])?;
+    drive(rt, fans[2])?;
+    drive(rt, fans[3])?;
+    drive(rt, fans[4])
 }
 
-fn drive(fan: Fan) {
-    named(b" ", fan.drive as u64);
+fn drive(rt: &impl Print, fan: Fan) -> io::Result<()> {
+    named(rt, b" ", fan.drive as u64)
 }
 
 // The sum of every register, then of each fan's wish and update clock.
@@ -144,17 +145,18 @@ fn add(sum: u64, byte: u8) -> u64 {
 }
 
 // Every register, sixteen to a line.
-pub fn registers(chip: Chip) {
+pub fn registers(rt: &impl Print, chip: Chip) -> io::Result<()> {
     for address in 0..=255u8 {
-        cell(address, chip.register(address));
+        cell(rt, address, chip.register(address))?;
     }
+    Ok(())
 }
 
-fn cell(address: u8, byte: u8) {
-    hex(byte);
+fn cell(rt: &impl Print, address: u8, byte: u8) -> io::Result<()> {
+    hex(rt, byte)?;
     if address % 16 == 15 {
-        text(b"\n");
+        text(rt, b"\n")
     } else {
-        text(b" ");
+        text(rt, b" ")
     }
 }

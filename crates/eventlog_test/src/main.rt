@@ -6,49 +6,51 @@ mod reading;
 mod show;
 mod writing;
 
-use libc::STDIN_FILENO;
+use std::io;
+use std::io::Read;
 
 // The most bytes of input that are read.
-const SPACE: usize = 262144;
+const SPACE: u64 = 262144;
 
-fn main() {
-    let mut space = [0u8; SPACE];
-    let len = io::read_full(STDIN_FILENO, &mut space);
-    run(&space[..len]);
+fn main(rt: HostRuntime) -> io::Result<()> {
+    let mut cases = Vec::new(rt.alloc());
+    rt.stdin().take(SPACE).read_to_end(&mut cases)?;
+    run(&rt, &cases)
 }
 
 // A case is a byte that says which, a byte n, and n bytes.
-fn run(cases: &[u8]) {
+fn run(rt: &impl Print, cases: &[u8]) -> io::Result<()> {
     let mut at = 0;
     for _ in 0..cases.len() {
         if cases.len() - at < 2 {
-            return;
+            return Ok(());
         }
         let which = cases[at];
         let n = wide_count(cases[at + 1]);
         let from = at + 2;
         if cases.len() - from < n {
-            return;
+            return Ok(());
         }
-        run_case(which, &cases[from..from + n]);
+        run_case(rt, which, &cases[from..from + n])?;
         at = from + n;
     }
+    Ok(())
 }
 
 fn wide_count(n: u8) -> usize {
     n as usize
 }
 
-fn run_case(which: u8, case: &[u8]) {
+fn run_case(rt: &impl Print, which: u8, case: &[u8]) -> io::Result<()> {
     match which {
-        b'r' => reading::at_place(case),
-        b'c' => reading::cut(case),
-        b'v' => reading::vary(case),
-        b'a' => reading::again(case),
-        b'w' => writing::lay(case),
-        _ => show::text(b"?"),
+        b'r' => reading::at_place(rt, case)?,
+        b'c' => reading::cut(rt, case)?,
+        b'v' => reading::vary(rt, case)?,
+        b'a' => reading::again(rt, case)?,
+        b'w' => writing::lay(rt, case)?,
+        _ => show::text(rt, b"?")?,
     }
-    show::text(b"\n");
+    show::text(rt, b"\n")
 }
 
 // A place or a length in one byte: up to 127 itself, from 128 on counted down from the largest that there is.

@@ -1,6 +1,7 @@
 // Cases of reading: at a place, every prefix of a log, every value of one byte of it, and a record read and written again.
 use crate::show;
 use eventlog::{Reading, Writing};
+use std::io;
 
 // Stands for the end of the log; none of the numbers given back.
 const END: u8 = 255;
@@ -9,16 +10,16 @@ const END: u8 = 255;
 const SPACE: usize = 64;
 
 // The place, then the log.
-pub fn at_place(case: &[u8]) {
+pub fn at_place(rt: &impl Print, case: &[u8]) -> io::Result<()> {
     if case.len() == 0 {
-        return;
+        return Ok(());
     }
     let place = crate::wide(case[0]);
     let log = &case[1..];
-    show::titled(b"read ", log);
-    show::named(b" at ", place as u64);
-    show::text(b": ");
-    show::reading(log, place);
+    show::titled(rt, b"read ", log)?;
+    show::named(rt, b" at ", place as u64)?;
+    show::text(rt, b": ")?;
+    show::reading(rt, log, place)
 }
 
 // What reading gave but for the event: its number, or END, and the place of a fault, else 0.
@@ -29,13 +30,14 @@ struct Gave {
 }
 
 // What is given of every prefix, the empty one first.
-pub fn cut(log: &[u8]) {
-    show::titled(b"cut ", log);
-    show::text(b":");
+pub fn cut(rt: &impl Print, log: &[u8]) -> io::Result<()> {
+    show::titled(rt, b"cut ", log)?;
+    show::text(rt, b":")?;
     for len in 0..=log.len() {
-        show::text(b" ");
-        show_given(at_start(&log[0..len]));
+        show::text(rt, b" ")?;
+        show_given(rt, at_start(&log[0..len]))?;
     }
+    Ok(())
 }
 
 fn at_start(log: &[u8]) -> Gave {
@@ -52,35 +54,36 @@ fn at_start(log: &[u8]) -> Gave {
     }
 }
 
-fn show_given(gave: Gave) {
+fn show_given(rt: &impl Print, gave: Gave) -> io::Result<()> {
     let number = gave.number;
     match number {
-        0 => show::text(b"0"),
-        END => show::text(b"end"),
-        _ => show::refusal(number, gave.fault),
+        0 => show::text(rt, b"0"),
+        END => show::text(rt, b"end"),
+        _ => show::refusal(rt, number, gave.fault),
     }
 }
 
 // Which byte, then the log: 'value=number@place' where number or place are not those of the value before.
-pub fn vary(case: &[u8]) {
+pub fn vary(rt: &impl Print, case: &[u8]) -> io::Result<()> {
     if case.len() == 0 {
-        return;
+        return Ok(());
     }
     let at = crate::wide(case[0]);
     let log = &case[1..];
-    show::titled(b"vary ", log);
-    show::named(b" byte ", at as u64);
-    show::text(b":");
+    show::titled(rt, b"vary ", log)?;
+    show::named(rt, b" byte ", at as u64)?;
+    show::text(rt, b":")?;
     if log.len() <= SPACE {
         let mut space = [0; SPACE];
         space[..log.len()].copy_from_slice(log);
-        vary_byte(&mut space[..log.len()], at);
+        vary_byte(rt, &mut space[..log.len()], at)?;
     }
+    Ok(())
 }
 
-fn vary_byte(log: &mut [u8], at: usize) {
+fn vary_byte(rt: &impl Print, log: &mut [u8], at: usize) -> io::Result<()> {
     if log.len() <= at {
-        return;
+        return Ok(());
     }
     let mut last = Gave {
         number: END,
@@ -90,25 +93,27 @@ fn vary_byte(log: &mut [u8], at: usize) {
         log[at] = value;
         let gave = at_start(log);
         if gave.number != last.number || gave.fault != last.fault {
-            show::named(b" ", value as u64);
-            show::text(b"=");
-            show_given(gave);
+            show::named(rt, b" ", value as u64)?;
+            show::text(rt, b"=")?;
+            show_given(rt, gave)?;
         }
         last = gave;
     }
+    Ok(())
 }
 
 // A good record is read, and the event is written: the same bytes.
-pub fn again(record: &[u8]) {
-    show::text(b"again ");
-    show::reading(record, 0);
+pub fn again(rt: &impl Print, record: &[u8]) -> io::Result<()> {
+    show::text(rt, b"again ")?;
+    show::reading(rt, record, 0)?;
     let Reading::Record(event, _) = eventlog::read(record, 0) else {
-        return;
+        return Ok(());
     };
     let mut space = [0; 40];
     if let Writing::Laid(len) = eventlog::write(event, record, &mut space) {
-        show::named(b" laid ", len as u64);
-        show::text(b" ");
-        show::part(&space, 0, len);
+        show::named(rt, b" laid ", len as u64)?;
+        show::text(rt, b" ")?;
+        show::part(rt, &space, 0, len)?;
     }
+    Ok(())
 }

@@ -1,70 +1,70 @@
 // Text on standard output: numbers, bytes, events, what reading gives.
 use eventlog::{Event, Reading};
-use libc::STDOUT_FILENO;
+use std::io;
 
-pub fn text(bytes: &[u8]) {
-    io::write_all(STDOUT_FILENO, bytes);
+pub fn text(rt: &impl Print, bytes: &[u8]) -> io::Result<()> {
+    rt.write_all(bytes)
 }
 
-pub fn number(n: u64) {
-    io::print_decimal(STDOUT_FILENO, n);
+pub fn number(rt: &impl Print, n: u64) -> io::Result<()> {
+    print!(rt; "{n}")
 }
 
 // A word and a number after it.
-pub fn named(word: &[u8], n: u64) {
-    text(word);
-    number(n);
+pub fn named(rt: &impl Print, word: &[u8], n: u64) -> io::Result<()> {
+    text(rt, word)?;
+    number(rt, n)
 }
 
-fn hex_byte(b: u8) {
-    io::print_hex(STDOUT_FILENO, b as u64, 2);
+fn hex_byte(rt: &impl Print, b: u8) -> io::Result<()> {
+    print!(rt; "{b:02x}")
 }
 
 // Two digits a byte, or '-' where there is none.
-pub fn hex(bytes: &[u8]) {
+pub fn hex(rt: &impl Print, bytes: &[u8]) -> io::Result<()> {
     if bytes.len() == 0 {
-        text(b"-");
+        text(rt, b"-")?;
     }
     for k in 0..bytes.len() {
-        hex_byte(bytes[k]);
+        hex_byte(rt, bytes[k])?;
     }
+    Ok(())
 }
 
 // A case's word and its bytes.
-pub fn titled(word: &[u8], bytes: &[u8]) {
-    text(word);
-    hex(bytes);
+pub fn titled(rt: &impl Print, word: &[u8], bytes: &[u8]) -> io::Result<()> {
+    text(rt, word)?;
+    hex(rt, bytes)
 }
 
 // Some bytes of a log, or '?' where they are not wholly within it.
-pub fn part(log: &[u8], place: usize, len: usize) {
+pub fn part(rt: &impl Print, log: &[u8], place: usize, len: usize) -> io::Result<()> {
     if place <= log.len() {
         if len <= log.len() - place {
-            hex(&log[place..place + len]);
-            return;
+            return hex(rt, &log[place..place + len]);
         }
     }
-    text(b"?");
+    text(rt, b"?")
 }
 
-fn transfer(word: &[u8], address: u8, place: usize, len: usize) {
-    named(word, address as u64);
-    named(b" at ", place as u64);
-    named(b" len ", len as u64);
-    text(b" ");
+fn transfer(rt: &impl Print, word: &[u8], address: u8, place: usize, len: usize) -> io::Result<()> {
+    named(rt, word, address as u64)?;
+    named(rt, b" at ", place as u64)?;
+    named(rt, b" len ", len as u64)?;
+    text(rt, b" ")
 }
 
-pub fn event(event: Event, log: &[u8]) {
+pub fn event(rt: &impl Print, event: Event, log: &[u8]) -> io::Result<()> {
     match event {
-        Event::PowerOn(address) => named(b"power-on ", address as u64),
-        Event::Ticks(count) => named(b"ticks ", count as u64),
+        Event::PowerOn(address) => named(rt, b"power-on ", address as u64),
+        Event::Ticks(count) => named(rt, b"ticks ", count as u64),
         Event::Sample { fan, count } => {
-            named(b"sample ", fan as u64);
-            named(b" ", count as u64);
+            named(rt, b"sample ", fan as u64)?;
+            named(rt, b" ", count as u64)
         }
         Event::Wish { fan, drive } => {
-            named(b"wish ", fan as u64);
-            named(b" ", drive as u64);
+            named(rt, b"wish ", fan as u64)?;
+            named(rt, b" ", drive as u64)
         }
         Event::Transfer {
             reads,
@@ -73,37 +73,37 @@ pub fn event(event: Event, log: &[u8]) {
             len,
         } => {
             if reads {
-                transfer(b"clock ", address, place, len);
+                transfer(rt, b"clock ", address, place, len)?;
             } else {
-                transfer(b"send ", address, place, len);
+                transfer(rt, b"send ", address, place, len)?;
             }
-            part(log, place, len);
+            part(rt, log, place, len)
         }
         Event::PowerOnPart { address, fans } => {
-            named(b"part-on ", address as u64);
-            named(b" ", fans as u64);
+            named(rt, b"part-on ", address as u64)?;
+            named(rt, b" ", fans as u64)
         }
     }
 }
 
 // A refusal of reading: its number and the place of the first faulty byte.
-pub fn refusal(given: u8, fault: usize) {
-    number(given as u64);
-    named(b"@", fault as u64);
+pub fn refusal(rt: &impl Print, given: u8, fault: usize) -> io::Result<()> {
+    number(rt, given as u64)?;
+    named(rt, b"@", fault as u64)
 }
 
 // What reading at a place gives: 0 with the place after the record and its event, 'end', or the refusal.
-pub fn reading(log: &[u8], place: usize) {
+pub fn reading(rt: &impl Print, log: &[u8], place: usize) -> io::Result<()> {
     match eventlog::read(log, place) {
         Reading::Record(found, next) => {
-            named(b"0 next ", next as u64);
-            text(b" ");
-            event(found, log);
+            named(rt, b"0 next ", next as u64)?;
+            text(rt, b" ")?;
+            event(rt, found, log)
         }
-        Reading::End => text(b"end"),
+        Reading::End => text(rt, b"end"),
         Reading::Refused {
             number: given,
             fault,
-        } => refusal(given, fault),
+        } => refusal(rt, given, fault),
     }
 }

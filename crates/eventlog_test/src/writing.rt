@@ -1,6 +1,7 @@
 // Cases of writing: an event over a log into a buffer, and what was laid read back.
 use crate::show;
 use eventlog::{Event, Writing};
+use std::io;
 
 // What stands in the buffer before the writer is called, and how long it can be.
 const FILL: u8 = 0xEE;
@@ -14,21 +15,22 @@ const READS: u8 = 13;
 const HEAD: usize = 7;
 
 // The room, the event, then the log that it points into. The whole buffer is shown, after a refusal too.
-pub fn lay(case: &[u8]) {
+pub fn lay(rt: &impl Print, case: &[u8]) -> io::Result<()> {
     if case.len() < HEAD {
-        return;
+        return Ok(());
     }
     let room = crate::wide(case[0]);
     let event = event_of(&case[1..HEAD]);
     let log = &case[HEAD..];
-    show::text(b"write ");
-    show::event(event, log);
-    show::named(b" room ", room as u64);
-    show::named(b": range ", eventlog::range_number(event, log) as u64);
+    show::text(rt, b"write ")?;
+    show::event(rt, event, log)?;
+    show::named(rt, b" room ", room as u64)?;
+    show::named(rt, b": range ", eventlog::range_number(event, log) as u64)?;
     if room <= SPACE {
         let mut space = [FILL; SPACE];
-        lay_over(event, log, &mut space[0..room]);
+        lay_over(rt, event, log, &mut space[0..room])?;
     }
+    Ok(())
 }
 
 fn word(low: u8, high: u8) -> u16 {
@@ -65,19 +67,19 @@ fn event_of(fields: &[u8]) -> Event {
     }
 }
 
-fn lay_over(event: Event, log: &[u8], out: &mut [u8]) {
+fn lay_over(rt: &impl Print, event: Event, log: &[u8], out: &mut [u8]) -> io::Result<()> {
     match eventlog::write(event, log, out) {
         Writing::Laid(len) => {
-            show::named(b" laid ", len as u64);
-            show::text(b" ");
-            show::hex(out);
-            show::text(b" back ");
-            show::reading(out, 0);
+            show::named(rt, b" laid ", len as u64)?;
+            show::text(rt, b" ")?;
+            show::hex(rt, out)?;
+            show::text(rt, b" back ")?;
+            show::reading(rt, out, 0)
         }
         Writing::Refused(number) => {
-            show::named(b" refused ", number as u64);
-            show::text(b" ");
-            show::hex(out);
+            show::named(rt, b" refused ", number as u64)?;
+            show::text(rt, b" ")?;
+            show::hex(rt, out)
         }
     }
 }

@@ -1,2 +1,2 @@
 pub mod Moving
-pub mod Serving
+pub mod Taking

@@ -5,10 +5,9 @@ use Prim.Native.Nat.{ℕ, ◌+◌, ◌≤◌, ◌<◌}
 use native.Mathlib.Omega.{arith}
 use native.Mathlib.Numerals.{add-one}
 use lib.ListN.{length, get_or, set, take, drop, length-drop}
-use lib.Seq.{take-suc, take_at, get_or-drop, get_or-append-add, length-take-le}
+use lib.Seq.{take-suc, take_at, get_or-drop, get_or-append-add}
 use Rattle.laws.specs.Buffer.{bytes_at}
 use Rattle.laws.proofs.Laid.{Laid, byte_on}
-use Rattle.laws.proofs.Buffer.{back_from}
 
 module _ (window cur : List ℕ) (place n i : ℕ) (fits : place + n ≤ length window) (laid : Laid window cur i (bytes_at window place i)) where
   -- what is not yet moved stands where it stood
@@ -30,7 +29,3 @@ module _ (window cur : List ℕ) (place n i : ℕ) (fits : place + n ≤ length 
   all_moved h k =
       let e : n ≡ i = omega arith in
       rw (e, laid.holds) (take_at (bytes_at window place i) (drop (length (bytes_at window place i)) window) i (sym laid.counts))
-
--- what is lent from a place on leaves what stands before it
-pub front_stays : (window part : List ℕ) (k : ℕ) → k ≤ length window → take k (back_from k window part) ≡ take k window
-front_stays window part k h = take_at (take k window) _ k (length-take-le k window h)

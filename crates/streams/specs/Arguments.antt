@@ -1,5 +1,5 @@
 -- What a program's arguments are. They come from outside: no definition says which.
-use Rattle.std.specs.Prelude.{◌≡◌, ℕ, List, [], ◌∷◌}
+use Rattle.std.specs.Prelude.{◌≡◌, ◌≤◌, ℕ, List, [], ◌∷◌, length, take}
 use Rattle.streams.specs.declared.Asks.{Asks}
 use Rattle.streams.specs.declared.Asks.TheVariants.{Nothing, Help, One, Long, Many}
 
@@ -14,3 +14,7 @@ Asked Help argument = argument ≡ help_word
 Asked One argument = argument ≡ help_word → ⊥
 Asked Long argument = argument ≡ []
 Asked Many argument = argument ≡ []
+
+-- the first n bytes of a buffer are within it, and n bytes
+abbrev pub IsPrefixLen : ℕ → List ℕ → Type 0
+IsPrefixLen n xs = (n ≤ length xs) × (n ≡ length (take n xs))

@@ -1,2 +1,3 @@
 pub mod Served
+pub mod Said
 pub mod Arguments

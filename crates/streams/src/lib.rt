@@ -1,14 +1,17 @@
 // What programs share that read a log as it comes: what a window holds of it, reading on, writing a text whole, and what the arguments ask for.
-// It calls the C library, whose contracts the kit assumes: so only programs use it.
+// What the system gives and takes comes through std's traits, which a clause knows little of: so only programs use it.
 #![tactic(auto)]
 
-ghost use Rattle.std.specs.Prelude.{◌≡◌, true, ◌+◌, ◌-◌, ◌≤◌, length, take};
-ghost use Rattle.io.specs.Counts.{IsPrefixLen};
+ghost use Rattle.std.specs.Prelude.{◌≡◌, true, ◌+◌, ◌-◌, ◌≤◌, length, take, OnOk};
+ghost use Rattle.std.specs.Io.KnownBytes.{Appends};
 ghost use Rattle.laws.specs.Buffer.{bytes_at};
 ghost use Rattle.streams.specs.Served.{begun, Moved, ReadOn, Served};
-ghost use Rattle.streams.specs.Arguments.{help_word, Asked};
+ghost use Rattle.streams.specs.Said.{SaysBehind};
+ghost use Rattle.streams.specs.Arguments.{help_word, Asked, IsPrefixLen};
 
-use libc::EINTR;
+use std::env::{Env, FillError};
+use std::io;
+use std::io::{ErrorKind, Read, Write};
 use windows::Wants;
 
 // What a window holds between two calls: window[from..held] is read and not yet used. Then whether the input has ended, and whether to go on.
@@ -60,11 +63,12 @@ impl Held {
 
     // What is held after a call that used so many bytes. It reads on where the call wants input, and goes on where it wants room. Where what was held
     // does not fit the window, or was less, it is over. A message about the input begins with `what`.
-    pub fn served(
+    pub fn served<R: Read, E: Write>(
         self,
         used: usize,
         wants: Wants,
-        input: i32,
+        input: &mut R,
+        errors: &mut E,
         what: &[u8],
         window: &mut [u8],
     ) -> Self
@@ -77,7 +81,7 @@ impl Held {
         let from = self.from + used;
         let ended = self.ended;
         match wants {
-            Wants::Input => read_on(from, held, input, what, window),
+            Wants::Input => read_on(from, held, input, errors, what, window),
             Wants::Room => Self {
                 from,
                 held,
@@ -95,23 +99,42 @@ impl Held {
 }
 
 // Moves what is held to the front of the window and reads once behind it. A read that a signal interrupts gives nothing: the next call asks for it again.
-fn read_on(from: usize, held: usize, input: i32, what: &[u8], window: &mut [u8]) -> Held
+fn read_on<R: Read, E: Write>(
+    from: usize,
+    held: usize,
+    input: &mut R,
+    errors: &mut E,
+    what: &[u8],
+    window: &mut [u8],
+) -> Held
     requires { (from ≤ held) × (held ≤ length window.old) }
     ensures { ReadOn (bytes_at window.old from (held - from)) result window.new }
 {
     let rest = held - from;
     move_to_front(window, from, rest);
-    let got = libc::read(input, &mut window[rest..]);
-    let failed = got < 0 && os::errno() != EINTR;
-    if failed {
-        os::fail(what);
+    match input.read(&mut window[rest..]) {
+        Ok(got) => Held {
+            from: 0,
+            held: rest + got,
+            ended: got == 0,
+            going: true,
+        },
+        Err(error) => Held {
+            from: 0,
+            held: rest,
+            ended: false,
+            going: goes_on(errors, what, error),
+        },
     }
-    Held {
-        from: 0,
-        held: rest + io::count(got, &window[rest..]),
-        ended: got == 0,
-        going: !failed,
+}
+
+// Whether to ask again after an error: where a signal interrupted the call. Any other error is told, and lost where the errors take no more.
+fn goes_on<E: Write>(errors: &mut E, what: &[u8], error: io::Error) -> bool {
+    let interrupted = error.kind() == ErrorKind::Interrupted;
+    if !interrupted {
+        let _ = fail(errors, what, error);
     }
+    interrupted
 }
 
 // Moves the n bytes at `from` to the front.
@@ -127,70 +150,104 @@ fn move_to_front(window: &mut [u8], from: usize, n: usize)
 }
 
 // Writes a text whole; false where the output does not take it, with a message that begins with `what`.
-pub fn write_out(output: i32, text: &[u8], what: &[u8]) -> bool
-    ensures { length text.now ≡ 0 → result ≡ true }
+pub fn write_out<W: Write, E: Write>(
+    output: &mut W,
+    errors: &mut E,
+    text: &[u8],
+    what: &[u8],
+) -> bool
+    ensures empty { length text.now ≡ 0 → result ≡ true }
+    ensures whole { result ≡ true → Appends (W.contents output.old) (W.contents output.new) text.now }
 {
-    if taken(output, text) < text.len() {
-        os::fail(what);
-        return false;
-    }
-    true
+    taken(output, errors, text, what) >= text.len()
 }
 
-// How many bytes of a text the output takes: all, or those before a write that fails. A write that a signal interrupts is tried again. A proved loop ends,
-// and nothing says that signals do: it counts its turns down from a number that they do not use up.
-fn taken(output: i32, text: &[u8]) -> usize
-    ensures { result ≤ length text.now }
+// How many bytes of a text the output takes: all, or those before a write that fails, which is told. A write that a signal interrupts is tried again. A
+// proved loop ends, and nothing says that signals do: it has more turns than they use up.
+fn taken<W: Write, E: Write>(output: &mut W, errors: &mut E, text: &[u8], what: &[u8]) -> usize
+    ensures within { result ≤ length text.now }
+    ensures bytes { Appends (W.contents output.old) (W.contents output.new) (take result text.now) }
 {
     let mut done = 0;
-    let mut turns = u64::MAX;
-    while turns > 0 && done < text.len() {
-        let put = libc::write(output, &text[done..]);
-        if put == 0 {
-            return done;
+    for _ in 0..u64::MAX {
+        if done >= text.len() {
+            break;
         }
-        if put < 0 && os::errno() != EINTR {
-            return done;
+        match output.write(&text[done..]) {
+            Ok(0) => {
+                let _ = fail(errors, what, io::Error::from(ErrorKind::WriteZero));
+                break;
+            }
+            Ok(put) => done += put,
+            Err(error) => {
+                if !goes_on(errors, what, error) {
+                    break;
+                }
+            }
         }
-        done += io::count(put, &text[done..]);
-        turns -= 1;
     }
     done
 }
 
+// Writes a line to the errors: what failed, a colon and the error's text.
+pub fn fail<E: Write>(errors: &mut E, what: &[u8], error: io::Error) -> io::Result<()>
+    ensures { OnOk result (SaysBehind (E.contents errors.old) (E.contents errors.new) what.now) }
+{
+    let mut text = [0u8; 256];
+    let mut rest = &mut text[..];
+    write!(rest, "{error}")?;
+    errors.write_all(what)?;
+    errors.write_all(b": ")?;
+    errors.write_all(&text[..words_len(&text)])?;
+    errors.write_all(b"\n")?;
+    Ok(())
+}
+
+// How many bytes of an error's text are the system's words, which its number follows in brackets or zeros.
+fn words_len(text: &[u8]) -> usize
+    ensures { result ≤ length text.now }
+{
+    for k in 0..text.len() {
+        if text[k] == 0 || text[k..].starts_with(b" (os error ") {
+            return k;
+        }
+    }
+    text.len()
+}
+
 // What the program's arguments are. One that stands alone is put at the front of the buffer, or as much of it as fits.
-pub fn read_arguments(buffer: &mut [u8]) -> Arguments
+pub fn read_arguments<E: Env>(env: &E, buffer: &mut [u8]) -> Arguments
     ensures { IsPrefixLen result.len buffer.new × Asked result.asks (take result.len buffer.new) }
 {
-    let count = os::arg_count();
-    if count < 2 {
-        return Arguments {
-            asks: Asks::Nothing,
-            len: 0,
-        };
-    }
-    if count > 2 {
+    let second = env.arg(2, &mut []);
+    if !matches!(second, Err(FillError::NotPresent)) {
         return Arguments {
             asks: Asks::Many,
             len: 0,
         };
     }
-    let len = os::arg(1, buffer);
-    if os::errno() != 0 {
-        return Arguments {
+    match env.arg(1, buffer) {
+        Ok(len) => {
+            if is_help(&buffer[..len]) {
+                Arguments {
+                    asks: Asks::Help,
+                    len,
+                }
+            } else {
+                Arguments {
+                    asks: Asks::One,
+                    len,
+                }
+            }
+        }
+        Err(FillError::NotPresent) => Arguments {
+            asks: Asks::Nothing,
+            len: 0,
+        },
+        Err(FillError::TooLong) => Arguments {
             asks: Asks::Long,
             len: 0,
-        };
-    }
-    if is_help(&buffer[..len]) {
-        return Arguments {
-            asks: Asks::Help,
-            len,
-        };
-    }
-    Arguments {
-        asks: Asks::One,
-        len,
+        },
     }
 }
 
@@ -198,5 +255,5 @@ pub fn read_arguments(buffer: &mut [u8]) -> Arguments
 pub fn is_help(argument: &[u8]) -> bool
     ensures { (result ≡ true → argument.now ≡ help_word) × (argument.now ≡ help_word → result ≡ true) }
 {
-    check::same(argument, b"--help")
+    argument == b"--help".as_slice()
 }
