@@ -15,7 +15,7 @@ import host
 
 ROOT = pathlib.Path(__file__).resolve().parent.parent
 MARK = b"\x9c\x46"
-RECORD = re.compile(r"laidOut (\d+) \(([^()]*)\)")
+RECORD = re.compile(r"laid_out (\d+) \(([^()]*)\)")
 
 
 def fail(text):
@@ -40,7 +40,7 @@ for file in logs:
         fail(f"{file.name}: the program lists other lines")
 if (ROOT / "samples/ramp.log").read_bytes() != proved_trace("Busy.antt", "trace"):
     fail("ramp.log is not the log that the ramp is proved of")
-if (ROOT / "samples/held-rotor.log").read_bytes() != proved_trace("Held.antt", "heldTrace"):
+if (ROOT / "samples/held-rotor.log").read_bytes() != proved_trace("Held.antt", "held_trace"):
     fail("held-rotor.log is not the log that the reads are proved of")
 if len(logs) < 2:
     fail("a sample is missing")
