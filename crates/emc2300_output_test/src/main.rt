@@ -2,6 +2,8 @@
 // commands and the lines, both made by host/expected with a model that was written apart from this code.
 #![tactic(auto)]
 
+ghost use Rattle.std.specs.Prelude.{◌≤◌, length};
+
 mod commands;
 mod fields;
 mod show;
@@ -10,12 +12,26 @@ use std::io;
 use std::io::Read;
 
 // The most bytes of input that are read.
-const SPACE: u64 = 262144;
+const SPACE: usize = 262144;
 
 fn main(rt: HostRuntime) -> io::Result<()> {
-    let mut input = Vec::new(rt.alloc());
-    rt.stdin().take(SPACE).read_to_end(&mut input)?;
-    run(&rt, &input)
+    let mut space = [0u8; SPACE];
+    let len = read_full(&mut rt.stdin(), &mut space);
+    run(&rt, &space[..len])
+}
+
+// Reads until the space is full, the input ends or a read fails. Answers how many bytes were read.
+fn read_full<R: Read>(input: &mut R, space: &mut [u8]) -> usize
+    ensures { result ≤ length space.new }
+{
+    let mut len = 0;
+    while len < space.len() {
+        match input.read(&mut space[len..]) {
+            Ok(0) | Err(_) => break,
+            Ok(got) => len += got,
+        }
+    }
+    len
 }
 
 // A command is a byte that says which, a byte n, and n bytes. Each acts on the state that the one before it left.

@@ -189,17 +189,21 @@ fn taken<W: Write, E: Write>(output: &mut W, errors: &mut E, text: &[u8], what: 
     done
 }
 
-// Writes a line to the errors: what failed, a colon and the error's text.
+// Writes a line to the errors: what failed, a colon and the error's text. A part that is not taken keeps no other from being written.
 pub fn fail<E: Write>(errors: &mut E, what: &[u8], error: io::Error) -> io::Result<()>
     ensures { OnOk result (SaysBehind (E.contents errors.old) (E.contents errors.new) what.now) }
 {
     let mut text = [0u8; 256];
     let mut rest = &mut text[..];
     write!(rest, "{error}")?;
-    errors.write_all(what)?;
-    errors.write_all(b": ")?;
-    errors.write_all(&text[..words_len(&text)])?;
-    errors.write_all(b"\n")?;
+    let name = errors.write_all(what);
+    let colon = errors.write_all(b": ");
+    let words = errors.write_all(&text[..words_len(&text)]);
+    let end = errors.write_all(b"\n");
+    name?;
+    colon?;
+    words?;
+    end?;
     Ok(())
 }
 
