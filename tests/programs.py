@@ -162,7 +162,7 @@ def unreadable_behind(command, log, lines):
 # ---- output that nobody takes ----
 
 def untaken(command, name, file, first, signals):
-    """The reader takes these bytes and goes. The write after that gives a signal, or an error where that is ignored."""
+    """The reader takes these bytes and goes. The write after that gives an error: a program ignores the signal, whether or not it was ignored before."""
     file.seek(0)
     process = subprocess.Popen(command, stdin=file, stdout=subprocess.PIPE, stderr=subprocess.DEVNULL,
                                restore_signals=signals)
