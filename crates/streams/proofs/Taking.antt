@@ -3,7 +3,7 @@ use Rattle.std.proofs.Common.{ℕ, ◌+◌, List, ◌++◌, take, drop, ap, sym,
 use Rattle.std.proofs.Math.Seq.{take-add}
 use Rattle.std.specs.Prelude.{Option, None, Some}
 use Rattle.std.specs.Io.KnownBytes.{Appends, Keeps}
-use Rattle.streams.specs.Said.{SaysBehind}
+use Rattle.streams.specs.Said.{SaysOf, colon, line_end}
 use Rattle.laws.proofs.Buffer.{lent_from, lent_is}
 
 pub still_held : (a b c : Option (List ℕ)) (text : List ℕ) → Appends a b text → Keeps b c → Appends a c text
@@ -32,6 +32,8 @@ appended (Some xs) None c s t h k = absurd h
 appended (Some xs) (Some ys) None s t h k = absurd k
 appended (Some xs) (Some ys) (Some zs) s t h k = k ∙ ap (λ (l : List ℕ). l ++ t) h ∙ append_assoc xs s t
 
--- four texts, one behind the other
-pub says_behind : (a b c d e : Option (List ℕ)) (what s t u : List ℕ) → Appends a b what → Appends b c s → Appends c d t → Appends d e u → SaysBehind a e what
-says_behind a b c d e what s t u h i j k = (s ++ (t ++ u), appended a b e what (s ++ (t ++ u)) h (appended b c e s (t ++ u) i (appended c d e t u j k)))
+-- the parts of a line, one behind the other
+pub says_of : (a b c d e : Option (List ℕ)) (what words : List ℕ) → Appends a b what → Appends b c colon → Appends c d words → Appends d e line_end
+    → SaysOf a e what
+says_of a b c d e what words h i j k =
+    (words, appended a b e what (colon ++ (words ++ line_end)) h (appended b c e colon (words ++ line_end) i (appended c d e words line_end j k)))

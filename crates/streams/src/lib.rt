@@ -6,7 +6,7 @@ ghost use Rattle.std.specs.Prelude.{◌≡◌, true, ◌+◌, ◌-◌, ◌≤◌
 ghost use Rattle.std.specs.Io.KnownBytes.{Appends};
 ghost use Rattle.laws.specs.Buffer.{bytes_at};
 ghost use Rattle.streams.specs.Served.{begun, Moved, ReadOn, Served};
-ghost use Rattle.streams.specs.Said.{SaysBehind};
+ghost use Rattle.streams.specs.Said.{SaysOf};
 ghost use Rattle.streams.specs.Arguments.{help_word, Asked, IsPrefixLen};
 
 use std::env::{Env, FillError};
@@ -191,7 +191,7 @@ fn taken<W: Write, E: Write>(output: &mut W, errors: &mut E, text: &[u8], what: 
 
 // Writes a line to the errors: what failed, a colon and the error's text. A part that is not taken keeps no other from being written.
 pub fn fail<E: Write>(errors: &mut E, what: &[u8], error: io::Error) -> io::Result<()>
-    ensures { OnOk result (SaysBehind (E.contents errors.old) (E.contents errors.new) what.now) }
+    ensures { OnOk result (SaysOf (E.contents errors.old) (E.contents errors.new) what.now) }
 {
     let mut text = [0u8; 256];
     let mut rest = &mut text[..];

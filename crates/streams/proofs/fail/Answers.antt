@@ -1,9 +1,9 @@
-use Rattle.streams.proofs.Taking.{says_behind}
+use Rattle.streams.proofs.Taking.{says_of}
 use Rattle.streams.proofs.fail.Goals as goal
 
 pub returns : goal.returns
 returns g c =
-    says_behind _ _ _ _ _ _ _ _ _
+    says_of _ _ _ _ _ _ _
     c.in_ok-name.ensures.bytes
     c.in_ok-colon.ensures.bytes
     c.in_ok-words.ensures.bytes
