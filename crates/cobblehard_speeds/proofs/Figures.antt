@@ -1,7 +1,7 @@
 -- The figures of a report by their place among the 25, and laid one behind the other up to the end of a buffer.
 use mathlib.Core.Path.{◌≡◌, refl, sym, ap, ◌∙◌}
 use mathlib.Core.List.{List, [], ◌∷◌, ◌++◌}
-use Prim.Native.Nat.{ℕ, zero, suc, ◌+◌, ◌*◌, ◌/◌, ◌%◌, ◌≤◌, ◌<◌}
+use Prim.Native.Nat.{ℕ, zero, suc, min, ◌+◌, ◌*◌, ◌/◌, ◌%◌, ◌≤◌, ◌<◌}
 use native.Mathlib.Omega.{arith}
 use native.Mathlib.Nat.{zero-add, suc-add}
 use native.Mathlib.Numerals.{add-one}
@@ -66,17 +66,20 @@ module _ (fans : List Figures) (out₀ out : List ℕ) (i : ℕ) (f : Filling fa
       }
 
   -- all of them, or as many as there is room for
-  pub filled : 25 ≤ i → out ≡ figures_laid fans out₀
+  filled_all : 25 ≤ i → out ≡ figures_laid fans out₀
   unfolding figures_laid
-  filled h =
+  filled_all h =
       let all = all_figures fans in
       let l = rows_length 5 fans in
       f.lain.holds
       ∙ ap (λ (done : List ℕ). laid_over done out₀)
       (take_all i all (omega (arith, l)) ∙ sym (take_all (length out₀) all (omega (arith, l, f.within))))
 
-  pub filled_up : length out ≤ i → out ≡ figures_laid fans out₀
+  filled_up : length out₀ ≤ i → out ≡ figures_laid fans out₀
   unfolding figures_laid
   filled_up h =
-      let e : i ≡ length out₀ = omega (arith, f.within, keeps) in
+      let e : i ≡ length out₀ = omega (arith, f.within) in
       f.lain.holds ∙ ap (λ (n : ℕ). laid_over (take n (all_figures fans)) out₀) e
+
+  pub filled : min (length out₀) 25 ≤ i → out ≡ figures_laid fans out₀
+  filled h = by_test (ltb i 25) (λ y. let s = ltb-true i 25 y in filled_up (omega arith)) (λ n. filled_all (ltb-false i 25 n))

@@ -31,17 +31,15 @@ pub extern "C" fn emc2305_speeds(
     lay_figures(fans, figures);
     *place = report.place as u64;
     *records = report.records as u64;
-    report.number
+    report.stop.map_or(0, u8::from)
 }
 
 // Lays the figures one behind the other, up to the end of the buffer.
 fn lay_figures(fans: [Figures; 5], out: &mut [u64])
     ensures { out.new ≡ figures_laid fans out.old }
 {
-    let mut i = 0;
-    while i < FIGURES && i < out.len() {
+    for i in 0..out.len().min(FIGURES) {
         out[i] = figure_at(fans, i);
-        i += 1;
     }
 }
 
@@ -50,6 +48,6 @@ fn figure_at(fans: [Figures; 5], i: usize) -> u64
     requires { i < 25 }
     ensures { result ≡ get_or (all_figures fans) i 0 }
 {
-    let row = reports::row_of(fans[i / 5]);
+    let row = fans[i / 5].row();
     row[i % 5]
 }

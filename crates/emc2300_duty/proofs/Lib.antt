@@ -1,3 +1,4 @@
 pub mod ZoneRules
 pub mod Goals
 pub mod Examples
+pub mod Linked

@@ -1,7 +1,8 @@
 // One output: what it is asked for, by mode and zones.
-ghost use Rattle.std.specs.Prelude.{◌≡◌, max, cond, ◌&&◌};
-ghost use Rattle.emc2300_duty.specs.Zones.{is_faulty, zone_asks};
-ghost use Rattle.emc2300_duty.specs.Duty.{mode_of, is_linked, limit_reached, linked_fault, linked_duty, automatic, by_mode, asked, goal_of};
+ghost use Rattle.std.specs.Prelude.{◌≡◌, max, filter, fold};
+ghost use Rattle.std.specs.List.{enumerate_from};
+ghost use Rattle.emc2300_duty.specs.Zones.{zone_asks};
+ghost use Rattle.emc2300_duty.specs.Duty.{mode_of, is_linked, limit_reached, linked_fault, automatic, by_mode, asked, goal_of};
 
 use crate::{Asked, Registers, Zone};
 
@@ -24,19 +25,18 @@ impl Registers {
     pub fn asked(self, start: bool, overridden: bool, zones: [Zone; 3]) -> Asked
         ensures { result ≡ asked start overridden self zones }
     {
-        if !start {
-            return Asked::Full;
+        if !start || overridden {
+            Asked::Full
+        } else {
+            self.by_mode(zones)
         }
-        if overridden {
-            return Asked::Full;
-        }
-        self.by_mode(zones)
     }
 
     #[tactic(auto, unfolding(crate::specs::Duty::by_mode))]
     fn by_mode(self, zones: [Zone; 3]) -> Asked
         ensures { result ≡ by_mode (mode_of self) self zones }
     {
+        // A number and no enum: it is a field of three bits that the match decodes, and `by_mode` and `is_linked` take the number.
         let mode = self.configuration / 32;
         match mode {
             3 => Asked::Full,
@@ -65,10 +65,7 @@ fn automatic(mode: u8, minimum: u8, zones: [Zone; 3]) -> Asked
 fn limit_reached(zones: [Zone; 3]) -> bool
     ensures { result ≡ limit_reached zones }
 {
-    let first = zones[0];
-    let second = zones[1];
-    let third = zones[2];
-    first.at_limit() || (second.at_limit() || third.at_limit())
+    zones.iter().any(|zone| zone.at_limit())
 }
 
 // Whether a linked zone is at 80h.
@@ -76,52 +73,32 @@ fn limit_reached(zones: [Zone; 3]) -> bool
 fn linked_fault(mode: u8, zones: [Zone; 3]) -> bool
     ensures { result ≡ linked_fault mode zones }
 {
-    fault_by(mode, 0, zones[0]) || (fault_by(mode, 1, zones[1]) || fault_by(mode, 2, zones[2]))
+    zones
+        .iter()
+        .enumerate()
+        .any(|(place, zone)| is_linked(mode, place) && zone.is_faulty())
 }
 
-// Whether the zone is linked and at 80h.
-fn fault_by(mode: u8, place: u8, zone: Zone) -> bool
-    ensures { result ≡ is_linked mode place && is_faulty zone }
-{
-    is_linked(mode, place) && zone.is_faulty()
-}
-
-// The largest duty that a linked zone asks: the hottest zone is the one that asks most.
-#[tactic(auto, unfolding(crate::specs::Duty::linked_duty))]
+// The largest duty that a linked zone asks: the hottest zone is the one that asks most. Over three zones that fold is the definition's
+// `linked_duty` (proofs/Linked.antt).
 fn linked_duty(mode: u8, minimum: u8, zones: [Zone; 3]) -> u8
-    ensures { result ≡ linked_duty mode minimum zones }
+    ensures { result ≡ fold (λ most x. max most (zone_asks minimum x.1)) 0 (filter (λ x. is_linked mode x.0) (enumerate_from 0 zones)) }
 {
-    let first = asked_by(mode, 0, minimum, zones[0]);
-    let second = asked_by(mode, 1, minimum, zones[1]);
-    let third = asked_by(mode, 2, minimum, zones[2]);
-    larger(first, larger(second, third))
-}
-
-// What the zone asks where it is linked, else 0.
-fn asked_by(mode: u8, place: u8, minimum: u8, zone: Zone) -> u8
-    ensures { result ≡ cond (is_linked mode place) (zone_asks minimum zone) 0 }
-{
-    if is_linked(mode, place) {
-        zone.asks(minimum)
-    } else {
-        0
-    }
+    zones
+        .iter()
+        .enumerate()
+        .filter(|(place, _)| is_linked(mode, *place))
+        .fold(0, |most: u8, (_, zone)| most.max(zone.asks(minimum)))
 }
 
 // Whether the mode links the zone, by its place from 0.
 #[tactic(auto, unfolding(crate::specs::Duty::is_linked))]
-fn is_linked(mode: u8, place: u8) -> bool
+fn is_linked(mode: u8, place: usize) -> bool
     ensures { result ≡ is_linked mode place }
 {
     match mode {
         5 => 1 <= place,
         6 => place <= 2,
-        _ => mode == place,
+        _ => mode as usize == place,
     }
-}
-
-fn larger(a: u8, b: u8) -> u8
-    ensures { result ≡ max a b }
-{
-    if a < b { b } else { a }
 }

@@ -1,5 +1,5 @@
 // One zone: its temperature, its limits, and what it asks of an output.
-ghost use Rattle.std.specs.Prelude.{◌≡◌, min};
+ghost use Rattle.std.specs.Prelude.{◌≡◌};
 ghost use Rattle.emc2300_duty.specs.Zones.{above_least, is_faulty, at_limit, range_of, rise, zone_asks};
 
 use crate::Zone;
@@ -25,11 +25,7 @@ impl Zone {
     pub fn at_limit(self) -> bool
         ensures { result ≡ at_limit self }
     {
-        if self.absolute == LEAST {
-            false
-        } else {
-            above_least(self.absolute) <= above_least(self.temperature)
-        }
+        self.absolute != LEAST && above_least(self.absolute) <= above_least(self.temperature)
     }
 
     // The duty that the zone asks of an output with this minimum.
@@ -38,7 +34,7 @@ impl Zone {
         ensures { result ≡ zone_asks minimum self }
     {
         let range = self.range() as u32;
-        let rise = smaller(self.rise() as u32, range);
+        let rise = (self.rise() as u32).min(range);
         // 255 x 8000 needs more than 16 bits.
         minimum + ((255 - minimum) as u32 * rise / range) as u8
     }
@@ -53,13 +49,8 @@ impl Zone {
     fn rise(self) -> u16
         ensures { result ≡ rise self }
     {
-        let temperature = above_least(self.temperature);
-        let low = above_least(self.low);
-        if low < temperature {
-            100 * (temperature - low) as u16
-        } else {
-            0
-        }
+        let degrees = above_least(self.temperature).saturating_sub(above_least(self.low));
+        100 * degrees as u16
     }
 }
 
@@ -68,11 +59,5 @@ impl Zone {
 fn above_least(byte: u8) -> u8
     ensures { result ≡ above_least byte }
 {
-    if byte < 128 { byte + 128 } else { byte - 128 }
-}
-
-fn smaller(a: u32, b: u32) -> u32
-    ensures { result ≡ min a b }
-{
-    if a < b { a } else { b }
+    byte.wrapping_add(128)
 }

@@ -5,11 +5,20 @@ mod ramp;
 mod settling;
 mod ticks;
 
-pub use ramp::{rate, under_ramp};
+use emc2300_duty::{Asked, Registers};
+pub use ramp::rate;
 pub use settling::spin_length;
 
-// The state of one output.
-#[derive(Clone, Copy)]
+// What an output goes by: its registers, and what they and the zones ask for.
+#[derive(Clone, Copy, Debug, PartialEq, Eq)]
+pub struct Request {
+    pub registers: Registers,
+    pub asked: Asked,
+}
+
+// The state of one output. A struct and no enum of spin-up and not: the promises and the tests speak of every duty, clock and left
+// together (`RampTicks`, `SpinTicks`).
+#[derive(Clone, Copy, Debug, PartialEq, Eq)]
 pub struct Output {
     // 0 in a spin-up.
     pub duty: u8,

@@ -1,11 +1,13 @@
 // The ramp's rate, ramp control, and what a read shows.
 ghost use Rattle.std.specs.Prelude.{◌≡◌};
+ghost use Rattle.laws.specs.Bits.{bit};
+ghost use Rattle.emc2300_duty.specs.Duty.{goal_of};
 ghost use Rattle.emc2300_output.specs.State.{placed, power_on, in_spin, shown, clock_cleared, ramp_of, with_ramp};
 ghost use Rattle.emc2300_output.specs.Ramp.{rate_of, zero_at_once, ramp_control};
 
-use crate::Output;
+use crate::{Output, Request};
 use emc2300_duty::{Asked, Registers};
-use ramps::Ramp;
+use ramps::{Pace, Ramp};
 
 // Ticks of one ramp step, by rate.
 const RATES: [u8; 8] = [17, 9, 6, 4, 3, 2, 1, 1];
@@ -43,7 +45,7 @@ impl Output {
     pub fn shown(self) -> u8
         ensures { result ≡ shown self }
     {
-        if 0 < self.left { 0 } else { self.duty }
+        if self.in_spin_up() { 0 } else { self.duty }
     }
 
     // A stored write to the output's ramp register sets the clock to 0.
@@ -64,12 +66,14 @@ impl Output {
         }
     }
 
-    pub(crate) fn with_ramp(mut self, ramp: Ramp) -> Output
+    pub(crate) fn with_ramp(self, ramp: Ramp) -> Output
         ensures { result ≡ with_ramp ramp self }
     {
-        self.duty = ramp.drive;
-        self.clock = ramp.clock;
-        self
+        Output {
+            duty: ramp.drive,
+            clock: ramp.clock,
+            ..self
+        }
     }
 }
 
@@ -80,27 +84,36 @@ pub fn rate(registers: Registers) -> u8
     RATES[(registers.ramp % 8) as usize]
 }
 
-// Whether the duty goes to the goal by steps: never to full or off, nor to 0 with SZEN.
-#[tactic(auto, unfolding(crate::specs::Ramp::ramp_control))]
-pub fn under_ramp(registers: Registers, asked: Asked) -> bool
-    ensures { result ≡ ramp_control registers asked }
-{
-    match asked {
-        Asked::Duty(goal) => {
-            if registers.ramp / ENABLE % 2 == 1 {
-                !zero_at_once(registers, goal)
-            } else {
-                false
-            }
-        }
-        Asked::Full => false,
-        Asked::Off => false,
+impl Request {
+    // Whether the duty goes to the goal by steps: never to full or off, nor to 0 with SZEN.
+    #[tactic(auto, unfolding(crate::specs::Ramp::ramp_control))]
+    pub fn under_ramp(self) -> bool
+        ensures { result ≡ ramp_control self.registers self.asked }
+    {
+        matches!(self.asked, Asked::Duty(_)) && self.ramp_enabled() && !self.zero_at_once()
     }
-}
 
-// Goal 0 with SZEN.
-fn zero_at_once(registers: Registers, goal: u8) -> bool
-    ensures { result ≡ zero_at_once registers goal }
-{
-    goal == 0 && registers.options / ZERO_AT_ONCE % 2 == 1
+    fn ramp_enabled(self) -> bool
+        ensures { result ≡ bit 3 self.registers.ramp }
+    {
+        self.registers.ramp / ENABLE % 2 == 1
+    }
+
+    // Goal 0 with SZEN.
+    fn zero_at_once(self) -> bool
+        ensures { result ≡ zero_at_once self.registers (goal_of self.asked) }
+    {
+        self.asked.goal() == 0 && self.registers.options / ZERO_AT_ONCE % 2 == 1
+    }
+
+    // Toward the goal by 1 at the rate.
+    pub(crate) fn pace(self) -> Pace
+        ensures { result ≡ record { goal = goal_of self.asked; step = 1; period = rate_of self.registers } }
+    {
+        Pace {
+            goal: self.asked.goal(),
+            step: 1,
+            period: rate(self.registers),
+        }
+    }
 }

@@ -1,10 +1,8 @@
 // Settling: what an output does when what it is asked for may have changed.
 ghost use Rattle.std.specs.Prelude.{◌≡◌};
-ghost use Rattle.emc2300_duty.specs.declared.Asked.TheVariants.{Duty};
 ghost use Rattle.emc2300_output.specs.Settling.{spin_length, started, spin_held, starts, duty_set, settled};
 
-use crate::Output;
-use crate::ramp::under_ramp;
+use crate::{Output, Request};
 use emc2300_duty::{Asked, Registers};
 
 // Spin-up lengths in ticks, by configuration bits 2..0.
@@ -13,26 +11,20 @@ const LENGTHS: [u16; 8] = [0, 8, 20, 32, 56, 80, 160, 320];
 impl Output {
     // After a stored write, a soft reset and a kept temperature sample.
     #[tactic(auto, unfolding(crate::specs::Settling::settled))]
-    pub fn settle(self, registers: Registers, asked: Asked) -> Output
-        ensures { result ≡ settled registers asked self }
+    pub fn settle(self, request: Request) -> Output
+        ensures { result ≡ settled request.registers request.asked self }
     {
-        match asked {
+        match request.asked {
             Asked::Full => Output::placed(255),
             Asked::Off => Output::placed(0),
-            Asked::Duty(goal) => self.toward(registers, goal),
-        }
-    }
-
-    // A duty is asked.
-    #[tactic(auto, unfolding(crate::specs::Settling::settled))]
-    fn toward(self, registers: Registers, goal: u8) -> Output
-        ensures { result ≡ settled registers (Duty goal) self }
-    {
-        if 0 < self.left {
-            self.spin_held(goal)
-        } else {
-            let ramped = under_ramp(registers, Asked::Duty(goal));
-            self.duty_set(spin_length(registers), ramped, goal)
+            Asked::Duty(goal) => {
+                if self.in_spin_up() {
+                    self.spin_held(goal)
+                } else {
+                    let length = spin_length(request.registers);
+                    self.duty_set(length, request.under_ramp(), goal)
+                }
+            }
         }
     }
 

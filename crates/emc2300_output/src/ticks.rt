@@ -2,33 +2,24 @@
 ghost use Rattle.std.specs.Prelude.{◌≡◌, false};
 ghost use Rattle.laws.specs.Repeat.{repeated};
 ghost use Rattle.emc2300_output.specs.State.{in_spin};
-ghost use Rattle.emc2300_output.specs.Tick.{clock_ticked, spin_ticked, ticked, last_within, spun_up};
+ghost use Rattle.emc2300_output.specs.Tick.{spin_ticked, ticked, last_within, spun_up};
 
-use crate::Output;
-use crate::ramp::{rate, under_ramp};
-use emc2300_duty::{Asked, Registers};
+use crate::{Output, Request};
+use emc2300_duty::Asked;
 
 impl Output {
     // One tick of 12.5 ms.
     #[tactic(auto, unfolding(crate::specs::Tick::ticked))]
-    pub fn tick(self, registers: Registers, asked: Asked) -> Output
-        ensures { result ≡ ticked registers asked self }
+    pub fn tick(self, request: Request) -> Output
+        ensures { result ≡ ticked request.registers request.asked self }
     {
-        if 0 < self.left {
-            self.spin_tick(asked.goal())
-        } else if under_ramp(registers, asked) {
-            self.clock_tick(registers, asked)
+        if self.in_spin_up() {
+            self.spin_tick(request.asked.goal())
+        } else if request.under_ramp() {
+            self.with_ramp(self.ramp().tick(request.pace()))
         } else {
             self
         }
-    }
-
-    // A tick that the ramp clock counts.
-    fn clock_tick(self, registers: Registers, asked: Asked) -> Output
-        ensures { result ≡ clock_ticked registers asked self }
-    {
-        let next = self.ramp().tick(asked.goal(), 1, rate(registers));
-        self.with_ramp(next)
     }
 
     // A tick in a spin-up.
@@ -39,32 +30,33 @@ impl Output {
         if self.left <= 1 {
             return Output::placed(goal);
         }
-        self.left = self.left - 1;
+        self.left -= 1;
         self
     }
 
     // So many ticks: those of a spin-up, then those of the ramp, both at once.
-    pub fn ticks(mut self, registers: Registers, asked: Asked, count: u16) -> Output
-        ensures { result ≡ repeated count (ticked registers asked) self }
+    #[tactic(auto, using(crate::proofs::Passing::spin_ticks, crate::proofs::Passing::spun_past))]
+    pub fn ticks(mut self, request: Request, count: u16) -> Output
+        ensures { result ≡ repeated count (ticked request.registers request.asked) self }
     {
         if count < self.left {
-            self.left = self.left - count;
+            self.left -= count;
             self
         } else if 0 < self.left {
-            Output::placed(asked.goal()).still_ticks(registers, asked, count - self.left)
+            Output::placed(request.asked.goal()).still_ticks(request, count - self.left)
         } else {
-            self.still_ticks(registers, asked, count)
+            self.still_ticks(request, count)
         }
     }
 
     // So many ticks out of spin-up.
-    fn still_ticks(self, registers: Registers, asked: Asked, count: u16) -> Output
+    #[tactic(auto, using(crate::proofs::Passing::ramp_alone, crate::proofs::Passing::still_ticks_lem))]
+    fn still_ticks(self, request: Request, count: u16) -> Output
         requires { in_spin self ≡ false }
-        ensures { result ≡ repeated count (ticked registers asked) self }
+        ensures { result ≡ repeated count (ticked request.registers request.asked) self }
     {
-        if under_ramp(registers, asked) {
-            let after = self.ramp().ticks(asked.goal(), 1, rate(registers), count);
-            self.with_ramp(after)
+        if request.under_ramp() {
+            self.with_ramp(self.ramp().ticks(request.pace(), count))
         } else {
             self
         }
@@ -82,7 +74,7 @@ impl Output {
     pub fn spun_up(self, asked: Asked) -> Output
         ensures { result ≡ spun_up asked self }
     {
-        if 0 < self.left {
+        if self.in_spin_up() {
             Output::placed(asked.goal())
         } else {
             self

@@ -1,88 +1,48 @@
-// Text on standard output: numbers, the state of an output, what the zones ask.
+// What the lines show: the state of an output, what the zones ask.
 use crate::fields::Bench;
-use emc2300_duty::{Asked, Zone};
-use std::io;
+use emc2300_duty::Asked;
+use std::{fmt, io};
+use test_commands::word_if;
 
-pub fn text(rt: &impl Print, bytes: &[u8]) -> io::Result<()> {
-    rt.write_all(bytes)
-}
-
-// A space, and a number in its fewest decimal digits.
-pub fn number(rt: &impl Print, n: u64) -> io::Result<()> {
-    text(rt, b" ")?;
-    print!(rt; "{n}")
-}
-
-// A space, and a byte in two hexadecimal digits.
-pub fn hex(rt: &impl Print, byte: u8) -> io::Result<()> {
-    text(rt, &[b' ', hex_digit(byte / 16), hex_digit(byte % 16)])
-}
-
-// The digit of a number below 16; '?' for any other.
-fn hex_digit(n: u8) -> u8 {
-    if n < 10 {
-        b'0' + n
-    } else if n < 16 {
-        b'A' + (n - 10)
-    } else {
-        b'?'
-    }
-}
-
-pub fn word_if(rt: &impl Print, holds: bool, word: &[u8]) -> io::Result<()> {
-    if holds {
-        text(rt, word)?;
-    }
-    Ok(())
-}
-
+// A line of words, which need not be text: so no format prints them. Each program has its own, since a library that they share may not print.
 pub fn title(rt: &impl Print, words: &[u8]) -> io::Result<()> {
-    text(rt, b"# ")?;
-    text(rt, words)?;
-    text(rt, b"\n")
+    print!(rt; "# ")?;
+    rt.write_all(words)?;
+    println!(rt)
 }
 
-// The rest of a state's line: seven numbers, then a word for each thing that holds.
-pub fn state(rt: &impl Print, bench: Bench) -> io::Result<()> {
-    let output = bench.output;
-    let registers = bench.registers();
-    let asked = bench.asked();
-    text(rt, b":")?;
-    number(rt, output.duty as u64)?;
-    number(rt, output.clock as u64)?;
-    number(rt, output.left as u64)?;
-    text(rt, b",")?;
-    number(rt, output.shown() as u64)?;
-    number(rt, asked.goal() as u64)?;
-    number(rt, emc2300_output::rate(registers) as u64)?;
-    number(rt, emc2300_output::spin_length(registers) as u64)?;
-    asked_for(rt, asked)?;
-    word_if(rt, emc2300_output::under_ramp(registers, asked), b" ramp")?;
-    word_if(rt, output.in_spin_up(), b" spin-up")?;
-    text(rt, b"\n")
-}
+// A state: seven numbers, then a word for each thing that holds.
+#[derive(Clone, Copy)]
+pub struct State(pub Bench);
 
-fn asked_for(rt: &impl Print, asked: Asked) -> io::Result<()> {
-    match asked {
-        Asked::Full => text(rt, b" full"),
-        Asked::Off => text(rt, b" off"),
-        Asked::Duty(_) => text(rt, b" asked"),
+impl fmt::Display for State {
+    fn fmt<W: fmt::Write>(&self, f: &mut fmt::Formatter<W>) -> fmt::Result {
+        let bench = self.0;
+        let output = bench.output;
+        let request = bench.request();
+        let rate = emc2300_output::rate(request.registers);
+        let length = emc2300_output::spin_length(request.registers);
+        let asked = match request.asked {
+            Asked::Full => "full",
+            Asked::Off => "off",
+            Asked::Duty(_) => "asked",
+        };
+        write!(f, ": {} {} {},", output.duty, output.clock, output.left)?;
+        write!(f, " {} {}", output.shown(), request.asked.goal())?;
+        write!(f, " {rate} {length} {asked}")?;
+        f.write_str(word_if(request.under_ramp(), " ramp"))?;
+        f.write_str(word_if(output.in_spin_up(), " spin-up"))
     }
 }
 
 // What each zone asks of the output, and whether it is at its absolute limit or at fault.
 pub fn zones(rt: &impl Print, bench: Bench) -> io::Result<()> {
-    let zones = bench.zones();
     let minimum = bench.registers().minimum;
-    text(rt, b"zones")?;
-    zone(rt, zones[0], minimum)?;
-    zone(rt, zones[1], minimum)?;
-    zone(rt, zones[2], minimum)?;
-    text(rt, b"\n")
-}
-
-fn zone(rt: &impl Print, zone: Zone, minimum: u8) -> io::Result<()> {
-    number(rt, zone.asks(minimum) as u64)?;
-    word_if(rt, zone.at_limit(), b" limit")?;
-    word_if(rt, zone.is_faulty(), b" fault")
+    print!(rt; "zones")?;
+    for zone in bench.zones() {
+        let limit = word_if(zone.at_limit(), " limit");
+        let fault = word_if(zone.is_faulty(), " fault");
+        print!(rt; " {}{limit}{fault}", zone.asks(minimum))?;
+    }
+    println!(rt)
 }

@@ -1,7 +1,6 @@
 mod Blocks
 pub mod Turns
 pub mod Ranged
-pub mod Answers
 pub mod ReadKeeps
 pub mod Pointers
 pub mod Numbers
@@ -10,4 +9,5 @@ pub mod SameSteps
 pub mod FansKept
 pub mod Parts
 pub mod LockKept
+pub mod Device
 pub mod Promises

@@ -17,7 +17,7 @@ use Rattle.eventlog.proofs.Ranges.{range_fault}
 use Rattle.emc2305_parts.specs.declared.Part.{Part}
 use Rattle.emc2305_chip.specs.Watching.{fed_chip}
 use Rattle.emc2305_chip.specs.declared.Chip.{Chip}
-use Rattle.emc2305.specs.declared.Answer.{Answer}
+use Rattle.emc2305.specs.Step.{Answer}
 use Rattle.emc2305.specs.Step.{before_power, absent, elsewhere, step_number, taken, reply_to, stepped, reply_after}
 use Rattle.emc2305.specs.Promises.{StepNumbers, Numbered, Refused, TakenStep, after}
 use Rattle.emc2305.proofs.Turns.{reply_length_lem}

@@ -1,20 +1,17 @@
--- What an event that is in range tells a step, and the number of a step, way by way.
-use mathlib.Core.Path.{◌≡◌, sym, subst}
-use mathlib.Core.Bool.{Bool, true, false}
+-- What an event that is in range tells a step.
+use mathlib.Core.Path.{◌≡◌, subst}
+use mathlib.Core.Bool.{Bool, true}
 use mathlib.Core.List.{List}
 use Prim.Native.Nat.{ℕ, ◌+◌, ◌≤◌, ◌<◌}
 use native.Mathlib.Omega.{arith}
 use lib.Dec.{leb}
 use lib.ListN.{length}
-use borrow.Author.Tests.{leb-true, ne_eqb, lt-ltb, le-ltb}
+use borrow.Author.Tests.{leb-true}
 use Rattle.laws.proofs.Tests.{and_left, and_right}
 use Rattle.eventlog.specs.declared.Event.{Event}
 use Rattle.eventlog.specs.declared.Event.TheVariants.{Sample, Wish, Transfer}
-use Rattle.eventlog.specs.Kinds.{reply_length}
 use Rattle.eventlog.specs.Range.{fan_in_range, range_number}
 use Rattle.eventlog.proofs.Ranges.{fan_right_lem, place_within, one_byte}
-use Rattle.emc2305_parts.specs.declared.Part.{Part}
-use Rattle.emc2305.specs.Step.{before_power, absent, elsewhere, step_number}
 
 module _ (log : List ℕ) (event : Event) (good : range_number log event ≡ 0) where
   in_range_as : (other : Event) → event ≡ other → range_number log other ≡ 0
@@ -37,33 +34,3 @@ module _ (log : List ℕ) (event : Event) (good : range_number log event ≡ 0) 
   pub clocked_within : (reads : Bool) (to place n : ℕ) → event ≡ Transfer reads to place n → reads ≡ true → place < length log
   clocked_within reads to place n e r =
       omega (arith, sent_within reads to place n e, one_byte log reads to place n (in_range_as (Transfer reads to place n) e) r)
-
--- the number, way by way
-module _ (part : Part) (powered : Bool) (address : ℕ) (log : List ℕ) (event : Event) (room : ℕ) where
-  pub gives_range : (range : ℕ) → range ≡ range_number log event → (range ≡ 0 → ⊥) → range ≡ step_number part powered address log event room
-  unfolding step_number
-  gives_range range e h = rw (sym e, ne_eqb range 0 h)
-
-  module _ (e : range_number log event ≡ 0) where
-    pub gives_6 : before_power powered event ≡ true → 6 ≡ step_number part powered address log event room
-    unfolding step_number
-    gives_6 f = rw (e, f)
-
-    module _ (f : before_power powered event ≡ false) where
-      pub gives_21 : absent part event ≡ true → 21 ≡ step_number part powered address log event room
-      unfolding step_number
-      gives_21 a = rw (e, f, a)
-
-      module _ (a : absent part event ≡ false) where
-        pub gives_7 : elsewhere address event ≡ true → 7 ≡ step_number part powered address log event room
-        unfolding step_number
-        gives_7 g = rw (e, f, a, g)
-
-        module _ (g : elsewhere address event ≡ false) where
-          pub gives_8 : room < reply_length log event → 8 ≡ step_number part powered address log event room
-          unfolding step_number
-          gives_8 h = rw (e, f, a, g, lt-ltb room (reply_length log event) h)
-
-          pub gives_0 : reply_length log event ≤ room → 0 ≡ step_number part powered address log event room
-          unfolding step_number
-          gives_0 h = rw (e, f, a, g, le-ltb room (reply_length log event) h)

@@ -1,6 +1,6 @@
 -- Laws for the loops: ticks, data bytes, reply bytes.
 use mathlib.Core.Path.{◌≡◌, refl, ◌∙◌}
-use mathlib.Core.List.{List, [], ◌∷◌}
+use mathlib.Core.List.{List}
 use Prim.Native.Nat.{ℕ, zero, suc, ◌+◌, ◌≤◌, ◌<◌}
 use native.Mathlib.Omega.{arith}
 use native.Mathlib.Numerals.{add-one}
@@ -8,11 +8,10 @@ use lib.ListN.{length, get_or, drop, set, drop_of_length-le, length-append}
 use lib.Seq.{drop-cons}
 use Rattle.laws.specs.Buffer.{laid_over}
 use Rattle.laws.specs.Repeat.{repeated}
-use Rattle.laws.proofs.Buffer.{lent_from, lent_is, laid_one}
+use Rattle.laws.proofs.Buffer.{laid_one}
 use Rattle.emc2305_chip.specs.declared.Chip.{Chip}
-use Rattle.emc2305_chip.specs.State.{with_pointer}
 use Rattle.emc2305_chip.specs.Registers.{shown_at}
-use Rattle.emc2305.specs.Transfers.{byte_written, in_turn, sent, byte_read, reply_of}
+use Rattle.emc2305.specs.Transfers.{byte_written, in_turn, byte_read, reply_of}
 
 -- one data byte more
 pub turn_next : (n i : ℕ) (bytes : List ℕ) (c next : Chip) → i < length bytes → next ≡ byte_written n (get_or bytes i 0) c
@@ -23,24 +22,6 @@ turn_next n i bytes c next h e = rw (drop-cons bytes i 0 h, add-one i, e) refl
 pub turn_over : (n i : ℕ) (bytes : List ℕ) (c : Chip) → length bytes ≤ i → in_turn n (drop i bytes) c ≡ c
 unfolding in_turn
 turn_over n i bytes c h = rw (drop_of_length-le bytes {i = i} h) refl
-
--- a write with no bytes, one with a single byte, and one with some
-pub sent_none : (bytes : List ℕ) (c : Chip) → length bytes ≡ 0 → c ≡ sent bytes c
-unfolding sent
-sent_none [] c e = refl
-sent_none (byte ∷ bytes) c e = absurd (omega arith)
-
-pub sent_one : (bytes : List ℕ) (c : Chip) → length bytes ≡ 1 → with_pointer (get_or bytes 0 0) c ≡ sent bytes c
-unfolding sent in_turn
-sent_one [] c e = absurd (omega arith)
-sent_one (pointer ∷ []) c e = refl
-sent_one (pointer ∷ byte ∷ rest) c e = absurd (omega arith)
-
-pub sent_some : (bytes : List ℕ) (c : Chip) → 1 ≤ length bytes
-    → in_turn (length (lent_from 1 bytes)) (lent_from 1 bytes) (with_pointer (get_or bytes 0 0) c) ≡ sent bytes c
-unfolding sent
-sent_some [] c h = absurd (omega arith)
-sent_some (byte ∷ bytes) c h = rw (lent_is 1 (byte ∷ bytes)) refl
 
 -- the reply has as many bytes as were read
 pub reply_length_lem : (n : ℕ) (c : Chip) (k : ℕ) → length (reply_of n c k) ≡ k

@@ -1,4 +1,5 @@
 pub mod Transfers
 pub mod Step
+pub mod Device
 pub mod Traffic
 pub mod Promises

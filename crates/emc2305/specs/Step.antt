@@ -1,10 +1,12 @@
 -- A step: the number, the reply, the chip.
-use Rattle.std.specs.Prelude.{Bool, true, false, cond, not, ◌&&◌, List, ℕ, ◌-◌, ltb, eqb, length, get_or}
+use Rattle.std.specs.Prelude.{Bool, true, false, cond, not, ◌&&◌, List, ℕ, ◌-◌, ltb, eqb, length, get_or, Result}
 use Rattle.laws.specs.Buffer.{bytes_at, laid_over}
 use Rattle.laws.specs.Repeat.{repeated}
 use Rattle.eventlog.specs.declared.Event.{Event}
 use Rattle.eventlog.specs.declared.Event.TheVariants.{PowerOn, Ticks, Sample, Wish, Transfer, PowerOnPart}
 use Rattle.eventlog.specs.Kinds.{on_sample, on_wish, on_transfer, is_power_on, reply_length}
+use Rattle.eventlog.specs.declared.refusal.Refusal.{Refusal}
+use Rattle.eventlog.specs.Numbers.{number_given}
 use Rattle.eventlog.specs.Range.{range_number}
 use Rattle.emc2305_parts.specs.declared.Part.{Part}
 use Rattle.emc2305_parts.specs.declared.Part.TheVariants.{Emc2305}
@@ -16,7 +18,8 @@ use Rattle.emc2305_chip.specs.declared.Chip.{Chip}
 use Rattle.emc2305_chip.specs.Watching.{fed_chip}
 use Rattle.emc2305_chip.specs.Registers.{at_defaults, on_fan}
 use Rattle.emc2305_chip.specs.Ticks.{chip_ticked}
-use Rattle.emc2305.specs.declared.Answer.{Answer}
+use Rattle.walks.specs.declared.devices.Taken.{Taken}
+use Rattle.walks.specs.Device.{laid_given, state_given}
 use Rattle.emc2305.specs.Transfers.{sent, reply_of, read_out}
 
 -- event other than power-on before any power-on
@@ -58,6 +61,16 @@ taken log (PowerOnPart address fans) c = at_defaults (part_with fans) true addre
 -- the reply bytes of an event that is taken
 unfoldable pub reply_to : List ℕ → Event → Chip → List ℕ
 reply_to log event c = reply_of (reply_length log event) (fed_chip c) (reply_length log event)
+
+-- what a step gives: the number, how many reply bytes were laid, and the chip
+pub record Answer : Type 0 where
+  pub number : ℕ
+  pub laid : ℕ
+  pub chip : Chip
+
+-- what the answer over a chip says: a refusal leaves the chip as it was and lays nothing
+abbrev pub answer_of : Chip → Result (Taken Chip) Refusal → Answer
+answer_of c answer = record { number = number_given answer; laid = laid_given answer; chip = state_given c answer }
 
 -- a step: a refusal leaves the chip as it was and lays nothing
 unfoldable pub stepped : Chip → List ℕ → Event → ℕ → Answer

@@ -2,71 +2,54 @@
 ghost use Rattle.std.specs.Prelude.{◌≡◌, ◌≤◌, length};
 ghost use Rattle.laws.specs.Buffer.{laid_over};
 ghost use Rattle.eventlog.specs.Kinds.{reply_length};
-ghost use Rattle.eventlog.specs.Range.{range_number};
-ghost use Rattle.emc2305.specs.Step.{before_power, absent, elsewhere, step_number, taken, reply_to, stepped, reply_after};
+ghost use Rattle.eventlog.specs.Numbers.{number_given};
+ghost use Rattle.emc2305.specs.Step.{before_power, absent, elsewhere, step_number, taken, reply_to, stepped, answer_of, reply_after};
 
-use crate::{Answer, transfers};
+use crate::transfers;
 use emc2305_chip::Chip;
 use emc2305_parts::Part;
-use eventlog::{ABSENT_FAN, ELSEWHERE, Event, NO_POWER, NO_ROOM, TAKEN};
+use eventlog::{Event, InRange, Refusal};
+use walks::Taken;
 
-// One event. The reply of a read is laid at the front of the buffer. A refusal leaves chip and buffer as they were.
-pub fn step(chip: Chip, log: &[u8], event: Event, reply: &mut [u8]) -> Answer
-    ensures { (result ≡ stepped chip log.now event (length reply.old)) × (reply.new ≡ reply_after chip log.now event reply.old) }
+// One event. The reply of a read is laid at the front of the buffer. A refusal leaves the buffer as it was, and the chip is the one that was handed in.
+#[tactic(auto, unfolding(crate::specs::Step::stepped, crate::specs::Step::reply_after, crate::specs::Step::step_number))]
+pub fn step(chip: Chip, log: &[u8], event: Event, reply: &mut [u8]) -> Result<Taken<Chip>, Refusal>
+    ensures value { answer_of chip result ≡ stepped chip log.now event (length reply.old) }
+    ensures reply_after { reply.new ≡ reply_after chip log.now event reply.old }
 {
+    let event = InRange::new(event, log)?;
     let part = chip.part;
-    let number = step_number(part, chip.powered, chip.address, log, event, reply.len());
-    if number != TAKEN {
-        return Answer {
-            number,
-            laid: 0,
-            chip,
-        };
-    }
-    let laid = reply_length(log, event);
-    let next = taken(chip, log, event, laid, reply);
-    Answer {
-        number: TAKEN,
-        laid,
-        chip: next,
-    }
+    check(part, chip.powered, chip.address, event, reply.len())?;
+    let laid = reply_length(event);
+    let state = taken(chip, event, laid, reply);
+    Ok(Taken { laid, state })
 }
 
-// The number: that of a field out of range, then 6, 21, 7, 8.
-fn step_number(part: Part, powered: bool, address: u8, log: &[u8], event: Event, room: usize) -> u8
-    ensures { result ≡ step_number part powered address log.now event room }
+// What is asked of an event in range: 6, 21, 7, 8, in this order.
+#[tactic(auto, unfolding(crate::specs::Step::step_number))]
+fn check(part: Part, powered: bool, address: u8, event: InRange, room: usize) -> Result<(), Refusal>
+    ensures { number_given result ≡ step_number part powered address event.entry.log.now event.entry.event room }
 {
-    let range = eventlog::range_number(event, log);
-    if range != TAKEN {
-        return range;
+    if before_power(powered, event.event) {
+        return Err(Refusal::NoPower);
     }
-    if before_power(powered, event) {
-        return NO_POWER;
+    if absent(part, event.event) {
+        return Err(Refusal::AbsentFan);
     }
-    if absent(part, event) {
-        return ABSENT_FAN;
+    if elsewhere(address, event.event) {
+        return Err(Refusal::Elsewhere);
     }
-    if elsewhere(address, event) {
-        return ELSEWHERE;
+    if room < reply_length(event) {
+        return Err(Refusal::NoRoom);
     }
-    if room < reply_length(log, event) {
-        return NO_ROOM;
-    }
-    TAKEN
+    Ok(())
 }
 
 // 6: an event other than power-on before any power-on.
 fn before_power(powered: bool, event: Event) -> bool
     ensures { result ≡ before_power powered event }
 {
-    match event {
-        Event::PowerOn(_) => false,
-        Event::PowerOnPart {
-            address: _,
-            fans: _,
-        } => false,
-        _ => !powered,
-    }
+    !powered && !matches!(event, Event::PowerOn(_) | Event::PowerOnPart { .. })
 }
 
 // 21: a sample or a wish for a fan that is absent.
@@ -74,8 +57,7 @@ fn absent(part: Part, event: Event) -> bool
     ensures { result ≡ absent part event }
 {
     match event {
-        Event::Sample { fan, count: _ } => part.fans() < fan as usize,
-        Event::Wish { fan, drive: _ } => part.fans() < fan as usize,
+        Event::Sample { fan, .. } | Event::Wish { fan, .. } => part.fans() < usize::from(fan),
         _ => false,
     }
 }
@@ -85,54 +67,39 @@ fn elsewhere(address: u8, event: Event) -> bool
     ensures { result ≡ elsewhere address event }
 {
     match event {
-        Event::Transfer {
-            reads: _,
-            address: to,
-            place: _,
-            len: _,
-        } => to != address,
+        Event::Transfer { address: to, .. } => to != address,
         _ => false,
     }
 }
 
 // How many bytes the reply has: of a read, as many as the host clocks.
-fn reply_length(log: &[u8], event: Event) -> usize
-    requires { range_number log.now event ≡ 0 }
-    ensures { result ≡ reply_length log.now event }
+fn reply_length(event: InRange) -> usize
+    ensures { result ≡ reply_length event.entry.log.now event.entry.event }
 {
-    match event {
-        Event::Transfer {
-            reads,
-            address: _,
-            place,
-            len: _,
-        } => { if reads { log[place] as usize } else { 0 } }
+    match event.event {
+        Event::Transfer { reads, place, .. } if reads => usize::from(event.log[place]),
         _ => 0,
     }
 }
 
 // The chip after an event that is taken, with its reply of n bytes laid.
-fn taken(chip: Chip, log: &[u8], event: Event, n: usize, reply: &mut [u8]) -> Chip
-    requires { (range_number log.now event ≡ 0) × (n ≡ reply_length log.now event) × (n ≤ length reply.old) }
-    ensures { (result ≡ taken log.now event chip) × (reply.new ≡ laid_over (reply_to log.now event chip) reply.old) }
+#[tactic(auto, unfolding(crate::specs::Step::taken, crate::specs::Step::reply_to, crate::specs::Transfers::reply_of))]
+fn taken(chip: Chip, event: InRange, n: usize, reply: &mut [u8]) -> Chip
+    requires n_value { n ≡ reply_length event.log.now event.event }
+    requires n_in_bounds { n ≤ length reply.old }
+    ensures value { result ≡ taken event.entry.log.now event.entry.event chip }
+    ensures reply_after { reply.new ≡ laid_over (reply_to event.entry.log.now event.entry.event chip) reply.old }
 {
-    match event {
+    match event.event {
         Event::PowerOn(address) => Chip::power_on(Part::Emc2305, address),
         Event::Ticks(count) => chip.ticks(count),
-        Event::Sample { fan, count } => chip.sample((fan - 1) as usize, count),
-        Event::Wish { fan, drive } => chip.wish((fan - 1) as usize, drive),
-        Event::Transfer {
-            reads,
-            address: _,
-            place,
-            len,
-        } => {
-            if reads {
-                transfers::read_out(chip.fed(), n, reply)
-            } else {
-                transfers::sent(chip.fed(), &log[place..place + len])
-            }
-        }
+        Event::Sample { fan, count } => chip.sample(usize::from(fan - 1), count),
+        Event::Wish { fan, drive } => chip.wish(usize::from(fan - 1), drive),
+        Event::Transfer { reads: true, .. } => transfers::read_out(chip.fed(), n, reply),
+        Event::Transfer { place, len, .. } => transfers::sent(
+            chip.fed(),
+            &event.log[place..place + len],
+        ),
         Event::PowerOnPart { address, fans } => Chip::power_on(Part::with_fans(fans), address),
     }
 }

@@ -6,22 +6,23 @@ ghost use Rattle.emc2305.specs.Transfers.{pointer_after, in_turn, sent, reply_of
 use emc2305_chip::{Chip, Register};
 
 // The bytes of a write. The first sets the pointer; with none nothing changes.
+#[tactic(auto, unfolding(crate::specs::Transfers::sent, crate::specs::Transfers::in_turn))]
 pub(crate) fn sent(mut chip: Chip, bytes: &[u8]) -> Chip
     ensures { result ≡ sent bytes.now chip }
 {
-    if bytes.len() == 0 {
+    let Some((pointer, data)) = bytes.split_first() else {
         return chip;
-    }
-    chip.pointer = bytes[0];
+    };
+    chip.pointer = *pointer;
     // Mostly a read comes next, and there is nothing to write.
-    if bytes.len() == 1 {
+    if data.is_empty() {
         return chip;
     }
-    in_turn(chip, &bytes[1..])
+    in_turn(chip, data)
 }
 
 // The data bytes of a write, in turn. The fans are held apart, and a fan takes all the bytes for it at once, so that they move
-// that fan and not the chip.
+// that fan and not the chip. The index goes on by as many bytes as were taken, which no `for` does.
 fn in_turn(mut chip: Chip, bytes: &[u8]) -> Chip
     ensures { result ≡ in_turn (length bytes.now) bytes.now chip }
 {
@@ -35,8 +36,7 @@ fn in_turn(mut chip: Chip, bytes: &[u8]) -> Chip
             Register::OfFan(at, offset) => {
                 let fan = fans[at];
                 let written = fan.write(offset, &bytes[i..], chip.is_locked());
-                let next = written.fan;
-                fans[at] = next;
+                fans[at] = written.fan;
                 if written.programmed {
                     chip = chip.programmed();
                 }
@@ -64,8 +64,7 @@ pub(crate) fn read_out(mut chip: Chip, n: usize, reply: &mut [u8]) -> Chip
 {
     let fans = chip.fans;
     let mut pointer = chip.pointer;
-    let mut i = 0;
-    while i < n {
+    for i in 0..n {
         match emc2305_chip::register_of(chip.fan_count(), pointer) {
             Register::OfFan(at, offset) => {
                 let fan = fans[at];
@@ -86,7 +85,6 @@ pub(crate) fn read_out(mut chip: Chip, n: usize, reply: &mut [u8]) -> Chip
             }
         }
         pointer = pointer_past(pointer, n, 1);
-        i += 1;
     }
     chip.pointer = pointer;
     chip
@@ -100,6 +98,6 @@ fn pointer_past(pointer: u8, n: usize, count: usize) -> u8
     if n <= 1 {
         pointer
     } else {
-        ((pointer as usize + count) % 256) as u8
+        ((usize::from(pointer) + count) % 256) as u8
     }
 }

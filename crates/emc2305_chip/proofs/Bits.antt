@@ -2,9 +2,10 @@
 use mathlib.Core.Path.{◌≡◌, refl, sym, ap}
 use mathlib.Core.Bool.{Bool, true, false, cond, ◌&&◌, ◌||◌, or-false}
 use mathlib.Core.List.{List, [], ◌∷◌}
-use Prim.Native.Nat.{ℕ, zero, suc, min, ◌+◌, ◌^◌, ◌≤◌, ◌<◌}
+use Prim.Native.Nat.{ℕ, zero, suc, min, ◌+◌, ◌*◌, ◌%◌, ◌^◌, ◌≤◌, ◌<◌}
 use native.Mathlib.Omega.{arith}
-use native.Mathlib.Nat.{two-pow-succ, one-le-pow}
+use native.Mathlib.Nat.{two-pow-succ, one-le-pow, one-mul, zero-mul, mod-eq_of_lt}
+use mir.Val.{bool_byte}
 use lib.Dec.{leb, ltb, eqb}
 use lib.ListN.{get_or}
 use lib.Pow.{pow_mono}
@@ -13,6 +14,9 @@ use Rattle.laws.specs.Lists.{first_moved}
 use Rattle.laws.proofs.Lists.{moved_still}
 use Rattle.laws.proofs.Tables.{entry}
 use Rattle.laws.proofs.Tests.{by_test}
+use Rattle.emc2305_parts.specs.declared.Part.{Part}
+use Rattle.emc2305_parts.specs.Parts.{fans_of}
+use Rattle.emc2305_parts.proofs.Counts.{few_fans}
 use Rattle.emc2305_fan.specs.declared.Bit.{Bit}
 use Rattle.emc2305_fan.specs.declared.Bit.TheVariants.{Stall, Spin}
 use Rattle.emc2305_fan.specs.declared.Fan.{Fan}
@@ -96,8 +100,14 @@ past_count n i t = let h = ltb-false i n t in omega arith
 pub none_yet : (n : ℕ) → min 0 n ≡ 0
 none_yet n = omega arith
 
-pub all_places : (n i : ℕ) → i ≤ 5 → 5 ≤ i → n ≤ 5 → min i n ≡ n
-all_places n i h k l = omega arith
+pub all_places : (part : Part) (n i : ℕ) → n ≡ fans_of part → 5 ≤ i → min i n ≡ fans_of part
+all_places part n i e h = rw e (omega (arith, few_fans part))
+
+-- a fan's bit at its place in a byte
+pub weighed_is : (b : Bool) (i x : ℕ) → i < 5 → x ≡ bool_byte b → x * 2 ^ i % 256 ≡ cond b (2 ^ i) 0
+weighed_is true i x h e =
+    let k : 2 ^ i ≤ 16 = rw (sym (weight_is i h)) (weight_within i h).1 in rw (e, one-mul (2 ^ i)) (mod-eq_of_lt (omega arith))
+weighed_is false i x h e = rw (e, zero-mul (2 ^ i)) refl
 
 -- one place more
 module _ (which : Bit) (fans : List Fan) (n i byte w : ℕ) (b : Bool) (sofar : byte ≡ bits_of which fans (min i n))

@@ -1,15 +1,26 @@
 -- One law for each way through a function of the chip.
 use mathlib.Core.Path.{◌≡◌, sym, ap}
 use mathlib.Core.Bool.{Bool, true, false, cond}
+use mathlib.Core.List.{List}
 use Prim.Native.Nat.{ℕ, ◌≤◌}
 use native.Mathlib.Omega.{arith}
-use Rattle.emc2305_fan.specs.Registers.{bit}
+use lib.Dec.{eqb}
+use lib.ListN.{length, get_or-eq_default}
+use Rattle.laws.proofs.Tests.{by_test}
+use Rattle.emc2305_fan.specs.declared.Fan.{Fan}
+use Rattle.emc2305_fan.specs.Registers.{bit, undefined, shown}
 use Rattle.emc2305_watchdog.specs.Watch.{fires, watch_ticked}
 use Rattle.emc2305_chip.specs.declared.Chip.{Chip}
 use Rattle.emc2305_chip.specs.State.{fan_count, with_watch}
-use Rattle.emc2305_chip.specs.Fans.{interrupting}
+use Rattle.emc2305_chip.specs.Fans.{no_fan, fan_at, interrupting}
 use Rattle.emc2305_chip.specs.Registers.{alert_line, register_at, stores_at, stored_of, written_at}
 use Rattle.emc2305_chip.specs.Ticks.{all_fired, all_ticked, chip_ticked}
+
+-- past the fans no register shows anything
+pub no_register : (fans : List Fan) (i offset : ℕ) → length fans ≤ i → 0 ≡ shown (fan_at fans i) offset
+unfolding shown
+no_register fans i offset h =
+    rw (get_or-eq_default fans no_fan {n = i} h) (by_test (undefined offset) (λ t. rw t) (λ t. rw t (by_test (eqb offset 0) (λ u. rw u) (λ u. rw u))))
 
 -- a flag is at most its weight
 pub flag_small : (b : Bool) (w x : ℕ) → x ≡ cond b w 0 → x ≤ w

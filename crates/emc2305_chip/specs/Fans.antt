@@ -1,15 +1,10 @@
 -- The fans side by side: what happens to them alike, and their status bits.
 use Rattle.std.specs.Prelude.{Bool, false, cond, ◌&&◌, ◌||◌, List, [], ℕ, zero, suc, ◌+◌, ◌^◌, get_or}
-use Rattle.laws.specs.Repeat.{repeated}
-use Rattle.emc2305_parts.specs.Parts.{reset_of}
 use Rattle.emc2305_fan.specs.declared.Bit.{Bit}
 use Rattle.emc2305_fan.specs.declared.Fan.{Fan}
-use Rattle.emc2305_fan.specs.Registers.{bit, no_spin, power_on}
-use Rattle.emc2305_fan.specs.Tick.{ticked, busy}
-use Rattle.emc2305_fan.specs.Tach.{fired}
-use Rattle.emc2305_fan.specs.Status.{standing, bit_read}
-use Rattle.emc2305_chip.specs.declared.Move.{Move}
-use Rattle.emc2305_chip.specs.declared.Move.TheVariants.{PowerOn, Ticks, Watchdog, Read}
+use Rattle.emc2305_fan.specs.Registers.{bit, no_spin}
+use Rattle.emc2305_fan.specs.Tick.{busy}
+use Rattle.emc2305_fan.specs.Status.{standing}
 
 -- past the five places there is no fan: an empty one stands for it
 abbrev pub no_fan : Fan
@@ -18,13 +13,6 @@ no_fan = record { registers = []; drive = 0; wish = 0; clock = 0; spin = no_spin
 -- fan i + 1
 abbrev pub fan_at : List Fan → ℕ → Fan
 fan_at fans i = get_or fans i no_fan
-
--- what happens to fans alike: power-on of their part, n ticks, the watchdog's firing, a read of 25h or of 26h
-abbrev pub move_of : Move → Fan → Fan
-move_of (PowerOn part) f = power_on (reset_of part).fan
-move_of (Ticks n) f = repeated n ticked f
-move_of Watchdog f = fired f
-move_of (Read which) f = bit_read which f
 
 -- one of the first n fans has something to do in a tick
 unfoldable pub any_busy : List Fan → ℕ → Bool

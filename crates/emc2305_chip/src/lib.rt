@@ -9,22 +9,18 @@ mod status;
 mod ticks;
 mod watching;
 
-ghost use Rattle.std.specs.Prelude.{◌≡◌, true, ◌<◌, set};
+ghost use Rattle.std.specs.Prelude.{◌≡◌, true};
 ghost use Rattle.emc2305_chip.specs.State.{fan_count, with_fans};
-ghost use Rattle.emc2305_chip.specs.Fans.{fan_at};
 ghost use Rattle.emc2305_chip.specs.Registers.{at_defaults, unpowered};
 
-use emc2305_fan::{Bit, Fan};
+use emc2305_fan::Fan;
 use emc2305_parts::Part;
 use emc2305_watchdog::Watch;
 pub use map::register_of;
 pub use registers::{is_cleared, is_writable};
 
-// How many fans the chip has place for.
-const PLACES: usize = 5;
-
 // The chip.
-#[derive(Clone, Copy)]
+#[derive(Clone, Copy, Debug, PartialEq, Eq)]
 pub struct Chip {
     pub powered: bool,
     // The bus address.
@@ -47,7 +43,7 @@ pub struct Chip {
 }
 
 // What stands at a register address.
-#[derive(Clone, Copy)]
+#[derive(Clone, Copy, Debug, PartialEq, Eq)]
 pub enum Register {
     // The fan, from 0, and the offset.
     OfFan(usize, usize),
@@ -56,7 +52,7 @@ pub enum Register {
 }
 
 // The registers that are no fan's.
-#[derive(Clone, Copy)]
+#[derive(Clone, Copy, Debug, PartialEq, Eq)]
 pub enum Own {
     Configuration,
     Status,
@@ -69,16 +65,6 @@ pub enum Own {
     Lock,
     // By its place from FCh on.
     Identity(usize),
-}
-
-// What happens to fans alike.
-#[derive(Clone, Copy)]
-pub enum Move {
-    PowerOn(Part),
-    Ticks(u16),
-    Watchdog,
-    // A read of 25h or of 26h.
-    Read(Bit),
 }
 
 impl Chip {
@@ -96,7 +82,8 @@ impl Chip {
         Chip::at_defaults(part, true, address)
     }
 
-    // Every default, unlocked; the power-up watch starts.
+    // Every default, unlocked; the power-up watch starts. Not inlined, so that the compiler does not spread the defaults' bytes over every step.
+    #[inline(never)]
     #[tactic(auto, unfolding(crate::specs::Registers::at_defaults))]
     fn at_defaults(part: Part, powered: bool, address: u8) -> Chip
         ensures { result ≡ at_defaults part powered address }
@@ -104,8 +91,8 @@ impl Chip {
         let reset = part.reset();
         let outputs = reset.outputs;
         let fan = fans::powered_on(part);
-        // From `each`, so that the compiler does not spread the defaults' bytes over every step.
-        let fans = fans::each([fan; 5], PLACES, Move::PowerOn(part));
+        // From `each`, for the same reason. As of the five-fan part, since absent fans get a power-on's state too.
+        let fans = fans::each([fan; 5], Part::Emc2305, |_| fans::powered_on(part));
         Chip {
             powered,
             address,
@@ -125,8 +112,7 @@ impl Chip {
     pub fn fan_count(self) -> usize
         ensures { result ≡ fan_count self }
     {
-        let part = self.part;
-        part.fans()
+        self.part.fans()
     }
 
     // The chip with other fans.
@@ -135,24 +121,5 @@ impl Chip {
     {
         self.fans = fans;
         self
-    }
-
-    // Fan i + 1.
-    pub(crate) fn fan(self, i: usize) -> Fan
-        requires { i < 5 }
-        ensures { result ≡ fan_at self.fans i }
-    {
-        let fans = self.fans;
-        fans[i]
-    }
-
-    // One fan changed, the other four as they were.
-    pub(crate) fn with_fan(self, i: usize, fan: Fan) -> Chip
-        requires { i < 5 }
-        ensures { result ≡ with_fans (set self.fans i fan) self }
-    {
-        let mut fans = self.fans;
-        fans[i] = fan;
-        self.with_fans(fans)
     }
 }

@@ -1,4 +1,5 @@
 // The register map: what stands at an address of a part with so many fans. Registers lie in rows of 16, so that address / 16 and address % 16 decide.
+// An offset below 16 is asked for by the three rows, and given by a remainder: a type of its own for it would be no plainer.
 ghost use Rattle.std.specs.Prelude.{◌≡◌, ℕ, ◌+◌, ◌<◌};
 ghost use Rattle.emc2305_chip.specs.Map.{of_fan, register_of};
 
@@ -8,8 +9,8 @@ use crate::{Own, Register};
 pub fn register_of(fans: usize, address: u8) -> Register
     ensures { result ≡ register_of fans address }
 {
-    let row = address as usize / 0x10;
-    let offset = address as usize % 0x10;
+    let row = usize::from(address / 0x10);
+    let offset = usize::from(address % 0x10);
     match row {
         0x2 => in_row_2(offset),
         0x3..=0x7 => of_fan(fans, row - 0x3, offset),

@@ -1,12 +1,14 @@
 // Reading and writing one register.
 ghost use Rattle.std.specs.Prelude.{◌≡◌, get_or, set};
+ghost use Rattle.emc2305_fan.specs.Registers.{shown};
 ghost use Rattle.emc2305_fan.specs.Status.{bit_read};
 ghost use Rattle.emc2305_parts.specs.Parts.{identity_of};
 ghost use Rattle.laws.specs.Lists.{first_moved};
 ghost use Rattle.emc2305_chip.specs.State.{fan_count, with_fans, with_outputs};
+ghost use Rattle.emc2305_chip.specs.Fans.{fan_at};
 ghost use Rattle.emc2305_chip.specs.Registers.{own_shown, clears, own_cleared, is_locked, own_guarded, writable, own_stores, own_stored, own_written, shown_at};
 
-use crate::{Chip, Move, Own, Register, fans, map};
+use crate::{Chip, Own, Register, fans, map};
 use emc2305_fan::Bit;
 
 // The weight of bit 0 of EFh.
@@ -19,9 +21,20 @@ impl Chip {
         ensures { result ≡ shown_at self address }
     {
         match map::register_of(self.fan_count(), address) {
-            Register::OfFan(i, offset) => self.fan(i).register(offset),
+            Register::OfFan(i, offset) => self.fan_register(i, offset),
             Register::OfChip(own) => self.own_register(own),
             Register::Undefined => 0x00,
+        }
+    }
+
+    // What a read of a register of fan i + 1 shows.
+    #[tactic(auto, using(crate::proofs::Ways::no_register))]
+    fn fan_register(self, i: usize, offset: usize) -> u8
+        ensures { result ≡ shown (fan_at self.fans i) offset }
+    {
+        match self.fans.get(i) {
+            Some(fan) => fan.register(offset),
+            None => 0x00,
         }
     }
 
@@ -80,12 +93,7 @@ impl Chip {
     fn own_stores(self, own: Own) -> bool
         ensures { result ≡ own_stores self own }
     {
-        if self.is_locked() {
-            if is_guarded(own) {
-                return false;
-            }
-        }
-        is_writable(own)
+        is_writable(own) && !(self.is_locked() && is_guarded(own))
     }
 
     // What a stored write does.
@@ -115,31 +123,21 @@ impl Chip {
     fn bits_read(self, bit: Bit) -> Chip
         ensures { result ≡ with_fans (first_moved (fan_count self) (bit_read bit) self.fans) self }
     {
-        let all = self.fans;
-        self.with_fans(fans::each(all, self.fan_count(), Move::Read(bit)))
+        self.with_fans(fans::each(self.fans, self.part, |fan| fan.bit_read(bit)))
     }
 
     // FCh to FFh, by the place from FCh on.
     fn identity(self, i: usize) -> u8
         ensures { result ≡ get_or (identity_of self.part) i 0 }
     {
-        let part = self.part;
-        let identity = part.identity();
-        match i {
-            0..=3 => identity[i],
-            _ => 0x00,
-        }
+        self.part.identity().get(i).copied().unwrap_or(0x00)
     }
 
     // 2Ah to 2Dh, by the place from 2Ah on.
     fn output(self, i: usize) -> u8
         ensures { result ≡ get_or self.outputs i 0 }
     {
-        let outputs = self.outputs;
-        match i {
-            0..=3 => outputs[i],
-            _ => 0x00,
-        }
+        self.outputs.get(i).copied().unwrap_or(0x00)
     }
 
     // One of 2Ah to 2Dh changed.
@@ -147,7 +145,7 @@ impl Chip {
         ensures { result ≡ with_outputs (set self.outputs i byte) self }
     {
         let mut outputs = self.outputs;
-        if i < 4 {
+        if i < outputs.len() {
             outputs[i] = byte;
         }
         self.outputs = outputs;
@@ -159,35 +157,23 @@ impl Chip {
 pub fn is_cleared(own: Own) -> bool
     ensures { result ≡ clears own }
 {
-    match own {
-        Own::Status => true,
-        Own::StallStatus => true,
-        Own::SpinStatus => true,
-        _ => false,
-    }
+    matches!(own, Own::Status | Own::StallStatus | Own::SpinStatus)
 }
 
 // Whether one of the chip's own registers can be written, the lock aside.
 pub fn is_writable(own: Own) -> bool
     ensures { result ≡ writable own }
 {
-    match own {
-        Own::Configuration => true,
-        Own::Enable => true,
-        Own::Output(_) => true,
-        Own::Lock => true,
-        // Read only.
-        _ => false,
-    }
+    // The others are read only.
+    matches!(
+        own,
+        Own::Configuration | Own::Enable | Own::Output(_) | Own::Lock
+    )
 }
 
 // Whether the lock guards it: 20h and EFh.
 fn is_guarded(own: Own) -> bool
     ensures { result ≡ own_guarded own }
 {
-    match own {
-        Own::Configuration => true,
-        Own::Lock => true,
-        _ => false,
-    }
+    matches!(own, Own::Configuration | Own::Lock)
 }

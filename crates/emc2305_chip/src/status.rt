@@ -1,5 +1,5 @@
 // The status registers and the alert line.
-ghost use Rattle.std.specs.Prelude.{◌≡◌, cond};
+ghost use Rattle.std.specs.Prelude.{◌≡◌};
 ghost use Rattle.emc2305_chip.specs.Registers.{stall_byte, spin_byte, status_byte, alert_line};
 
 use crate::{Chip, fans};
@@ -19,25 +19,23 @@ impl Chip {
     pub(crate) fn stall_byte(self) -> u8
         ensures { result ≡ stall_byte self }
     {
-        let all = self.fans;
-        fans::bits_of(all, self.fan_count(), Bit::Stall)
+        fans::bits_of(self.fans, self.part, Bit::Stall)
     }
 
     // The byte of 26h.
     pub(crate) fn spin_byte(self) -> u8
         ensures { result ≡ spin_byte self }
     {
-        let all = self.fans;
-        fans::bits_of(all, self.fan_count(), Bit::Spin)
+        fans::bits_of(self.fans, self.part, Bit::Spin)
     }
 
     // 24h: WATCH, any of 26h, any of 25h.
     pub(crate) fn status_byte(self) -> u8
         ensures { result ≡ status_byte self }
     {
-        flag(self.expired, WATCH)
-            + flag(self.spin_byte() != 0, ANY_SPIN)
-            + flag(self.stall_byte() != 0, ANY_STALL)
+        u8::from(self.expired) * WATCH
+            + u8::from(self.spin_byte() != 0) * ANY_SPIN
+            + u8::from(self.stall_byte() != 0) * ANY_STALL
     }
 
     // The alert line. WATCH is not gated by 29h.
@@ -45,20 +43,7 @@ impl Chip {
     pub fn alert(self) -> bool
         ensures { result ≡ alert_line self }
     {
-        if self.configuration / MASK % 2 == 1 {
-            return false;
-        }
-        if self.expired {
-            return true;
-        }
-        let all = self.fans;
-        fans::interrupting(all, self.fan_count(), self.enable)
+        self.configuration / MASK % 2 != 1
+            && (self.expired || fans::interrupting(self.fans, self.part, self.enable))
     }
-}
-
-// A bit of the weight where it stands.
-fn flag(stands: bool, weight: u8) -> u8
-    ensures { result ≡ cond stands weight 0 }
-{
-    if stands { weight } else { 0 }
 }

@@ -1,9 +1,9 @@
-// Ticks of the chip.
+// Ticks of the chip. Their loop goes on by one tick, or by all that are quiet: a stride that no `for` has.
 ghost use Rattle.std.specs.Prelude.{◌≡◌};
 ghost use Rattle.laws.specs.Repeat.{repeated};
 ghost use Rattle.emc2305_chip.specs.Ticks.{all_fired, chip_ticked, all_ticks};
 
-use crate::{Chip, Move, fans};
+use crate::{Chip, fans};
 
 impl Chip {
     // So many ticks, one after the other. Those in which the watchdog does not fire are taken together.
@@ -32,19 +32,17 @@ impl Chip {
     fn all_fired(mut self) -> Chip
         ensures { result ≡ all_fired self }
     {
-        let all = self.fans;
         self.expired = true;
-        self.with_fans(fans::each(all, self.fan_count(), Move::Watchdog))
+        self.with_fans(fans::each(self.fans, self.part, |fan| fan.fired()))
     }
 
     // Each fan takes so many ticks of its own; where none has anything to do, nothing changes.
+    #[tactic(auto, using(crate::proofs::Together::all_idle))]
     fn all_ticks(self, count: u16) -> Chip
         ensures { result ≡ all_ticks count self }
     {
-        let all = self.fans;
-        let n = self.fan_count();
-        if fans::any_busy(all, n) {
-            self.with_fans(fans::each(all, n, Move::Ticks(count)))
+        if fans::any_busy(self.fans, self.part) {
+            self.with_fans(fans::each(self.fans, self.part, |fan| fan.ticks(count)))
         } else {
             self
         }

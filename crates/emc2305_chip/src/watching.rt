@@ -14,24 +14,21 @@ impl Chip {
     pub fn programmed(self) -> Chip
         ensures { result ≡ programmed_if true self }
     {
-        let watch = self.watch;
-        self.with_watch(watch.programmed())
+        self.with_watch(self.watch.programmed())
     }
 
     // A stored write to 20h: WD_EN starts or ends the continuous watch.
     pub(crate) fn configured_by(self, byte: u8) -> Chip
         ensures { result ≡ configured_by byte self }
     {
-        let watch = self.watch;
-        self.with_watch(watch.configured(byte / WD_EN % 2 == 1))
+        self.with_watch(self.watch.configured(byte / WD_EN % 2 == 1))
     }
 
     // A transfer taken feeds the continuous watch.
     pub fn fed(self) -> Chip
         ensures { result ≡ fed_chip self }
     {
-        let watch = self.watch;
-        self.with_watch(watch.fed())
+        self.with_watch(self.watch.fed())
     }
 
     // The chip with another watch.

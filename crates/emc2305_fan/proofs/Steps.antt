@@ -2,26 +2,29 @@
 use mathlib.Core.Path.{◌≡◌, ap, ◌∙◌}
 use mathlib.Core.Bool.{Bool, true, false, cond}
 use Prim.Native.Nat.{ℕ, ◌+◌, ◌≤◌, ◌<◌}
+use lib.Dec.{leb}
 use borrow.Author.Tests.{le-leb, lt-leb, eq-eqb, ne_eqb}
 use Rattle.laws.proofs.Tests.{by_test}
+use Rattle.ramps.specs.Ramp.{counted}
 use Rattle.emc2305_fan.specs.declared.Fan.{Fan}
-use Rattle.emc2305_fan.specs.State.{with_drive, with_clock}
+use Rattle.emc2305_fan.specs.State.{with_drive}
 use Rattle.emc2305_fan.specs.Registers.{closed_loop, stores}
-use Rattle.emc2305_fan.specs.Drive.{goal, under_ramp, period}
+use Rattle.emc2305_fan.specs.Drive.{goal, under_ramp, step, period}
+use Rattle.emc2305_fan.specs.Ramp.{ramp_of, with_ramp}
 use Rattle.emc2305_fan.specs.Spin.{in_spin, spin_on, started, ended, too_slow, spin_over, spin_tick}
 use Rattle.emc2305_fan.specs.Tick.{updated, clock_ticked, ticked}
 use Rattle.emc2305_fan.specs.Stored.{put, wish_taken, clock_set, spin_held, spin_starts, drive_set, settled, written}
 use Rattle.emc2305_fan.specs.Tach.{judged, judged_stall}
 
--- a counted tick below the period waits
-pub waits : (f : Fan) → f.clock + 1 < period f → clock_ticked f ≡ with_clock (f.clock + 1) f
-unfolding clock_ticked
-waits f h = rw (lt-leb (period f) (f.clock + 1) h)
-
 -- at or past the period it acts
 pub acts : (f : Fan) → period f ≤ f.clock + 1 → clock_ticked f ≡ updated f
 unfolding clock_ticked
 acts f h = rw (le-leb (period f) (f.clock + 1) h)
+
+-- a counted tick is one of the ramp
+pub clock_ticked_is : (f : Fan) → clock_ticked f ≡ with_ramp (counted (goal f) (step f) (period f) (ramp_of f)) f
+unfolding clock_ticked updated counted
+clock_ticked_is f = by_test (leb (period f) (f.clock + 1)) (λ t. rw t) (λ t. rw t)
 
 -- a spin-up goes on before its last tick
 pub spins_on : (f : Fan) → f.spin.ticks + 1 < f.spin.length → spin_tick f ≡ in_spin (spin_on 1 f.spin) f

@@ -1,4 +1,4 @@
--- The rules of the fixed tables, and what holds of every period and spin-up length.
+-- The rules of the fixed tables, and what holds of every spin-up length.
 use mathlib.Core.Path.{refl}
 use Prim.Native.Nat.{ℕ, ◌+◌, ◌*◌, ◌/◌, ◌%◌, ◌≤◌}
 use native.Mathlib.Omega.{arith}
@@ -8,8 +8,7 @@ use borrow.Author.Tests.{leb-true, eqb-true}
 use Rattle.laws.proofs.Tables.{entry}
 use Rattle.emc2305_fan.specs.declared.Fan.{Fan}
 use Rattle.emc2305_fan.specs.Tables.{periods, lengths, levels}
-use Rattle.emc2305_fan.specs.Registers.{configuration1, spin_up}
-use Rattle.emc2305_fan.specs.Drive.{period}
+use Rattle.emc2305_fan.specs.Registers.{spin_up}
 use Rattle.emc2305_fan.specs.Spin.{spin_length}
 use Rattle.emc2305_fan.specs.Promises.{update_times, spin_times, LevelRule, PeriodRule, LengthRule}
 
@@ -25,10 +24,6 @@ pub length_rule : LengthRule
 length_rule i h =
     eqb-true (25 * get_or lengths i 0) (2 * get_or spin_times i 0) (entry (λ (k x : ℕ). eqb (25 * x) (2 * get_or spin_times k 0)) lengths refl i h)
 
--- every period is a tick at least
-pub period_some : (f : Fan) → 1 ≤ period f
-period_some f = leb-true 1 (period f) (entry (λ (k x : ℕ). leb 1 x) periods refl (configuration1 f % 8) (omega arith))
-
--- so is every spin-up
+-- every spin-up is a tick at least
 pub length_some : (f : Fan) → 1 ≤ spin_length f
 length_some f = leb-true 1 (spin_length f) (entry (λ (k x : ℕ). leb 1 x) lengths refl (spin_up f % 4) (omega arith))

@@ -1,12 +1,12 @@
 -- Data bytes for one fan: one more, and none past F.
-use mathlib.Core.Path.{◌≡◌, refl, sym}
+use mathlib.Core.Path.{◌≡◌, refl, sym, ap}
 use mathlib.Core.Bool.{Bool, true, false, not, ◌&&◌, ◌||◌}
 use mathlib.Core.List.{List, [], ◌∷◌}
-use Prim.Native.Nat.{ℕ, ◌+◌, ◌≤◌, ◌<◌}
+use Prim.Native.Nat.{ℕ, zero, suc, ◌+◌, ◌-◌, min, ◌≤◌, ◌<◌}
 use native.Mathlib.Omega.{arith}
 use native.Mathlib.Numerals.{add-one}
-use lib.ListN.{length, get_or, drop}
-use lib.Seq.{drop-cons}
+use lib.ListN.{length, get_or, take, drop}
+use lib.Seq.{drop-cons, take-nil}
 use Rattle.laws.proofs.Tests.{and_left}
 use Rattle.emc2305_fan.specs.declared.Fan.{Fan}
 use Rattle.emc2305_fan.specs.State.{with_wish, with_clock}
@@ -67,3 +67,14 @@ module _ (lock : Bool) (first i : ℕ) (bytes : List ℕ) (f next : Fan) (h : i 
       → (now || bytes_program lock (first + (i + 1)) (drop (i + 1) bytes) next) ≡ (was || bytes_program lock (first + i) (drop i bytes) f)
   unfolding bytes_program
   programs_next was now p = rw (drop-cons bytes i 0 h, one_on, add-one i, e, p) (or_or was _ _)
+
+-- the bytes past F are for no offset: those before them do all
+pub own_alone : (lock : Bool) (first : ℕ) (bytes : List ℕ) (f : Fan) (n : ℕ) → min (length bytes) (16 - first) ≤ n
+    → (bytes_taken lock first (take n bytes) f ≡ bytes_taken lock first bytes f)
+    × (bytes_program lock first (take n bytes) f ≡ bytes_program lock first bytes f)
+unfolding bytes_taken bytes_program
+own_alone lock first [] f n h = rw (take-nil n) (refl, refl)
+own_alone lock first (byte ∷ rest) f zero h = let p = past_last lock first (byte ∷ rest) f (omega arith) in (sym p.0, sym p.1)
+own_alone lock first (byte ∷ rest) f (suc n) h =
+    let p = own_alone lock (first + 1) rest (byte_taken lock first byte f) n (omega arith) in
+    (p.0, ap (λ (t : Bool). (takes lock f first && programs first byte) || t) p.1)

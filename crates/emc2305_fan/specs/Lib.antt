@@ -1,8 +1,8 @@
 pub mod Tables
 pub mod State
 pub mod Registers
-pub mod Ramp
 pub mod Drive
+pub mod Ramp
 pub mod Spin
 pub mod Tick
 pub mod Stored

@@ -1,7 +1,7 @@
 // Drive: goal, wish, ramp control, and the tick.
-ghost use Rattle.std.specs.Prelude.{◌≡◌, true, false, max, ◌<◌};
+ghost use Rattle.std.specs.Prelude.{◌≡◌, false};
 ghost use Rattle.laws.specs.Repeat.{repeated};
-ghost use Rattle.emc2305_fan.specs.Ramp.{moved};
+ghost use Rattle.emc2305_fan.specs.Ramp.{ramp_of, with_ramp, pace_of};
 ghost use Rattle.emc2305_fan.specs.Drive.{driver_off, goal, under_ramp, step, period, wished};
 ghost use Rattle.emc2305_fan.specs.Tick.{clock_ticked, ticked, busy};
 
@@ -9,17 +9,14 @@ use crate::{
     CONFIGURATION_1, CONFIGURATION_2, DRIVER_OFF, Fan, MAX_STEP, MINIMUM_DRIVE, RAMP, SETTING,
     TARGET_HIGH, tables,
 };
+use ramps::{Pace, Ramp};
 
 impl Fan {
     // Closed loop with target high FFh.
     pub fn driver_off(self) -> bool
         ensures { result ≡ driver_off self }
     {
-        if self.closed_loop() {
-            self.registers[TARGET_HIGH] == DRIVER_OFF
-        } else {
-            false
-        }
+        self.closed_loop() && self.registers[TARGET_HIGH] == DRIVER_OFF
     }
 
     // The drive that the fan is to have.
@@ -31,7 +28,7 @@ impl Fan {
             if self.driver_off() {
                 0
             } else {
-                larger(self.wish, self.registers[MINIMUM_DRIVE])
+                self.wish.max(self.registers[MINIMUM_DRIVE])
             }
         } else {
             self.registers[SETTING]
@@ -90,19 +87,42 @@ impl Fan {
         }
     }
 
-    // A tick that the update clock counts. A clock past its period acts as at the period.
-    #[tactic(auto, unfolding(crate::specs::Tick::clock_ticked, crate::specs::Tick::updated))]
-    fn clock_tick(mut self) -> Fan
+    // Where the ramp stands.
+    fn ramp(self) -> Ramp
+        ensures { result ≡ ramp_of self }
+    {
+        Ramp {
+            drive: self.drive,
+            clock: self.clock,
+        }
+    }
+
+    // Where it goes, and how fast.
+    fn pace(self) -> Pace
+        ensures { result ≡ pace_of self }
+    {
+        Pace {
+            goal: self.goal(),
+            step: self.step(),
+            period: self.period(),
+        }
+    }
+
+    // The fan with its ramp elsewhere.
+    fn with_ramp(mut self, ramp: Ramp) -> Fan
+        ensures { result ≡ with_ramp ramp self }
+    {
+        self.drive = ramp.drive;
+        self.clock = ramp.clock;
+        self
+    }
+
+    // A tick that the update clock counts.
+    #[tactic(auto, using(crate::proofs::Steps::clock_ticked_is))]
+    fn clock_tick(self) -> Fan
         ensures { result ≡ clock_ticked self }
     {
-        // In u16, so that a clock of 255 does not overflow.
-        if self.clock as u16 + 1 < self.period() as u16 {
-            self.clock = self.clock + 1;
-        } else {
-            self.drive = ramp_update(self.drive, self.goal(), self.step());
-            self.clock = 0;
-        }
-        self
+        self.with_ramp(self.ramp().tick(self.pace()))
     }
 
     // Whether a tick changes anything: a spin-up runs, or the update clock counts.
@@ -113,97 +133,30 @@ impl Fan {
     }
 
     // So many ticks. A spin-up takes them one by one, the ramp all at once.
+    #[tactic(auto, unfolding(laws::specs::Repeat::repeated), using(laws::proofs::Repeat::once_more, laws::proofs::Repeat::first_steps, crate::proofs::Steps::ticks_spin))]
     pub fn ticks(self, count: u16) -> Fan
         ensures { result ≡ repeated count ticked self }
     {
         let mut fan = self;
-        let mut left = count;
-        while fan.spin.running {
-            if left == 0 {
-                return fan;
+        for passed in 0..count {
+            if !fan.spin.running {
+                return fan.still_ticks(count - passed);
             }
             fan = fan.spin_tick();
-            left -= 1;
         }
-        fan.still_ticks(left)
+        fan
     }
 
     // So many ticks out of spin-up.
+    #[tactic(auto, using(crate::proofs::Ticks::ramp_alone, crate::proofs::Ticks::still_ticks_lem))]
     fn still_ticks(self, count: u16) -> Fan
         requires { self.spin.running ≡ false }
         ensures { result ≡ repeated count ticked self }
     {
         if self.under_ramp() {
-            self.clock_ticks(count)
+            self.with_ramp(self.ramp().ticks(self.pace(), count))
         } else {
             self
-        }
-    }
-
-    // So many ticks that the update clock counts. A clock past its period acts first.
-    fn clock_ticks(self, count: u16) -> Fan
-        requires { (under_ramp self ≡ true) × (self.spin.running ≡ false) }
-        ensures { result ≡ repeated count ticked self }
-    {
-        if self.clock < self.period() {
-            self.ramped(count)
-        } else if count == 0 {
-            self
-        } else {
-            self.clock_tick().ramped(count - 1)
-        }
-    }
-
-    // So many ticks by the closed formula: a step for each whole period, and the clock at what is left.
-    fn ramped(mut self, count: u16) -> Fan
-        requires { (under_ramp self ≡ true) × (self.spin.running ≡ false) × (self.clock < period self) }
-        ensures { result ≡ repeated count ticked self }
-    {
-        let counted = self.clock as u32 + count as u32;
-        let period = self.period() as u32;
-        // No division where no update comes.
-        if counted < period {
-            self.clock = counted as u8;
-            return self;
-        }
-        self.drive = moved(
-            self.drive,
-            self.goal(),
-            self.step() as u32 * (counted / period),
-        );
-        self.clock = (counted % period) as u8;
-        self
-    }
-}
-
-fn larger(a: u8, b: u8) -> u8
-    ensures { result ≡ max a b }
-{
-    if a < b { b } else { a }
-}
-
-// One ramp update.
-pub fn ramp_update(drive: u8, goal: u8, step: u8) -> u8
-    ensures { result ≡ moved drive goal step }
-{
-    moved(drive, goal, step as u32)
-}
-
-// The drive moved toward the goal by the smaller of `by` and the distance.
-fn moved(drive: u8, goal: u8, by: u32) -> u8
-    ensures { result ≡ moved drive goal by }
-{
-    if drive <= goal {
-        if by < (goal - drive) as u32 {
-            drive + by as u8
-        } else {
-            goal
-        }
-    } else {
-        if by < (drive - goal) as u32 {
-            drive - by as u8
-        } else {
-            goal
         }
     }
 }

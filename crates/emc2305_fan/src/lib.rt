@@ -9,7 +9,7 @@ mod stored;
 mod tables;
 mod tach;
 
-pub use drive::ramp_update;
+pub use ramps::update as ramp_update;
 pub use registers::is_locked;
 
 // The offsets of a fan's registers that a rule names.
@@ -33,8 +33,8 @@ const READING_HIGH: usize = 0xE;
 
 const READING_LOW: usize = 0xF;
 
-// The last of the 16 offsets.
-const LAST: usize = 0xF;
+// How many offsets there are.
+const OFFSETS: usize = 0x10;
 
 // Weights of the bits that a rule names: Configuration 1 bit 7, Configuration 2 bit 6, Spin Up bit 5.
 const LOOP: u8 = 0x80;
@@ -46,8 +46,9 @@ const NO_KICK: u8 = 0x20;
 // The target high byte that turns the driver off.
 const DRIVER_OFF: u8 = 0xFF;
 
-// A spin-up. Power-on and the end of one leave all of it 0.
-#[derive(Clone, Copy)]
+// A spin-up. Power-on and the end of one leave all of it 0. Whether one runs is a flag, and no Option of the rest: the test program emc2305_fan_test sets and
+// shows states in which none runs and the rest is not 0 (its command l).
+#[derive(Clone, Copy, Debug, Default, PartialEq, Eq)]
 pub struct SpinUp {
     pub running: bool,
     // Ticks so far.
@@ -59,14 +60,14 @@ pub struct SpinUp {
 }
 
 // The two status bits of a fan: that of 25h and that of 26h.
-#[derive(Clone, Copy)]
+#[derive(Clone, Copy, Debug, PartialEq, Eq)]
 pub enum Bit {
     Stall,
     Spin,
 }
 
 // The state of one fan.
-#[derive(Clone, Copy)]
+#[derive(Clone, Copy, Debug, PartialEq, Eq)]
 pub struct Fan {
     // By offset. Setting holds what was stored there; a read of it shows the drive.
     pub registers: [u8; 16],
@@ -82,7 +83,7 @@ pub struct Fan {
 }
 
 // What data bytes leave of a fan.
-#[derive(Clone, Copy)]
+#[derive(Clone, Copy, Debug, PartialEq, Eq)]
 pub struct Written {
     pub fan: Fan,
     // Whether a byte programmed it, which ends the power-up watch.

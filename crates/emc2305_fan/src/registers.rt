@@ -1,6 +1,6 @@
 // A fan's registers: power-on, what a read shows, which writes are stored, which offsets are locked.
 ghost use Rattle.std.specs.Prelude.{◌≡◌};
-ghost use Rattle.emc2305_fan.specs.Registers.{power_on, no_spin, shown, stores, locked, closed_loop};
+ghost use Rattle.emc2305_fan.specs.Registers.{power_on, shown, stores, locked, closed_loop};
 
 use crate::{CONFIGURATION_1, Fan, LOOP, SETTING, SpinUp};
 
@@ -15,7 +15,7 @@ impl Fan {
             drive: 0,
             wish: 0,
             clock: 0,
-            spin: no_spin(),
+            spin: SpinUp::default(),
             stalled: false,
             failed: false,
         }
@@ -28,8 +28,7 @@ impl Fan {
     {
         match offset {
             SETTING => self.drive,
-            0x1..=0x3 => self.registers[offset],
-            0x5..=0xF => self.registers[offset],
+            0x1..=0x3 | 0x5..=0xF => self.registers[offset],
             _ => 0x00,
         }
     }
@@ -41,8 +40,7 @@ impl Fan {
     {
         match offset {
             SETTING => !self.closed_loop(),
-            0x1..=0x3 => true,
-            0x5..=0xD => true,
+            0x1..=0x3 | 0x5..=0xD => true,
             // 4 is undefined, E and F are read only.
             _ => false,
         }
@@ -61,21 +59,5 @@ impl Fan {
 pub fn is_locked(offset: usize) -> bool
     ensures { result ≡ locked offset }
 {
-    match offset {
-        0x3 => true,
-        0x5..=0xB => true,
-        _ => false,
-    }
-}
-
-pub(crate) fn no_spin() -> SpinUp
-    ensures { result ≡ no_spin }
-{
-    SpinUp {
-        running: false,
-        ticks: 0,
-        length: 0,
-        kick: false,
-        level: 0,
-    }
+    matches!(offset, 0x3 | 0x5..=0xB)
 }

@@ -2,7 +2,7 @@
 ghost use Rattle.std.specs.Prelude.{◌≡◌};
 ghost use Rattle.emc2305_fan.specs.Spin.{spin_new, spin_drive, started, ended, too_slow, spin_leaves, spin_failed, spin_over, spin_tick};
 
-use crate::{Fan, NO_KICK, READING_HIGH, SPIN_UP, SpinUp, VALID_COUNT, registers, tables};
+use crate::{Fan, NO_KICK, READING_HIGH, SPIN_UP, SpinUp, VALID_COUNT, tables};
 
 impl SpinUp {
     // The first quarter at 255, unless there is no kick; the rest at the level.
@@ -10,12 +10,11 @@ impl SpinUp {
     fn drive(self) -> u8
         ensures { result ≡ spin_drive self }
     {
-        if self.kick {
-            if self.ticks < self.length / 4 {
-                return 255;
-            }
+        if self.kick && self.ticks < self.length / 4 {
+            255
+        } else {
+            self.level
         }
-        self.level
     }
 }
 
@@ -58,7 +57,7 @@ impl Fan {
     {
         self.drive = drive;
         self.clock = 0;
-        self.spin = registers::no_spin();
+        self.spin = SpinUp::default();
         self
     }
 
@@ -76,8 +75,8 @@ impl Fan {
         ensures { result ≡ spin_tick self }
     {
         let mut spin = self.spin;
-        if spin.ticks as u16 + 1 < spin.length as u16 {
-            spin.ticks = spin.ticks + 1;
+        if u16::from(spin.ticks) + 1 < u16::from(spin.length) {
+            spin.ticks += 1;
             self.drive = spin.drive();
             self.spin = spin;
             self

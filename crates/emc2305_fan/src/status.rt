@@ -32,11 +32,7 @@ impl Fan {
     pub fn is_stuck(self) -> bool
         ensures { result ≡ stuck self }
     {
-        if self.too_slow() {
-            0 < self.drive
-        } else {
-            false
-        }
+        self.too_slow() && 0 < self.drive
     }
 
     // The fan with one of its bits cleared.
@@ -44,14 +40,9 @@ impl Fan {
         ensures { result ≡ bit_cleared bit self }
     {
         match bit {
-            Bit::Stall => {
-                self.stalled = false;
-                self
-            }
-            Bit::Spin => {
-                self.failed = false;
-                self
-            }
+            Bit::Stall => self.stalled = false,
+            Bit::Spin => self.failed = false,
         }
+        self
     }
 }

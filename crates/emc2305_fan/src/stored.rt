@@ -3,7 +3,7 @@ ghost use Rattle.std.specs.Prelude.{◌≡◌, not, ◌&&◌, min, ◌-◌, leng
 ghost use Rattle.emc2305_fan.specs.Registers.{closed_loop};
 ghost use Rattle.emc2305_fan.specs.Stored.{clears_clock, spin_starts, takes, programs, bytes_taken, bytes_program};
 
-use crate::{CONFIGURATION_1, CONFIGURATION_2, Fan, LAST, LOOP, SETTING, Written, registers};
+use crate::{CONFIGURATION_1, CONFIGURATION_2, Fan, LOOP, OFFSETS, SETTING, Written, registers};
 
 impl Fan {
     // Data bytes in turn, from an offset on, with the lock on or off. One that is not stored changes nothing.
@@ -15,17 +15,14 @@ impl Fan {
     {
         let mut fan = self;
         let mut programmed = false;
-        let n = bytes.len();
-        for i in 0..n {
+        // Those past the last offset are not for this fan.
+        let own = &bytes[..bytes.len().min(OFFSETS.saturating_sub(first))];
+        for (i, &byte) in own.iter().enumerate() {
             let offset = first + i;
-            if LAST < offset {
-                return left(fan, programmed, i);
-            }
             if !fan.takes(offset, locked) {
                 continue;
             }
-            let byte = bytes[i];
-            programmed = programmed | programs(offset, byte);
+            programmed |= programs(offset, byte);
             let was_closed = fan.closed_loop();
             fan.registers[offset] = byte;
             if fan.turned_on(was_closed) {
@@ -41,67 +38,42 @@ impl Fan {
             } else if fan.spin_starts() {
                 fan = fan.start();
             } else if !fan.under_ramp() {
-                let goal = fan.goal();
-                fan.drive = goal;
+                fan.drive = fan.goal();
             }
         }
-        left(fan, programmed, n)
+        Written {
+            fan,
+            programmed,
+            count: own.len(),
+        }
     }
 
     // Whether a write to the offset is stored, with the lock on or off.
     fn takes(self, offset: usize, locked: bool) -> bool
         ensures { result ≡ takes locked self offset }
     {
-        if locked {
-            if registers::is_locked(offset) {
-                return false;
-            }
-        }
-        self.stores(offset)
+        !(locked && registers::is_locked(offset)) && self.stores(offset)
     }
 
     // Whether the loop is on and was not.
     fn turned_on(self, was_closed: bool) -> bool
         ensures { result ≡ (not was_closed && closed_loop self) }
     {
-        if was_closed {
-            false
-        } else {
-            self.closed_loop()
-        }
+        !was_closed && self.closed_loop()
     }
 
     // Whether a stored write to the offset sets the update clock to 0.
     fn clears_clock(self, offset: usize) -> bool
         ensures { result ≡ clears_clock offset self }
     {
-        match offset {
-            CONFIGURATION_1 => true,
-            CONFIGURATION_2 => true,
-            _ => self.driver_off(),
-        }
+        matches!(offset, CONFIGURATION_1 | CONFIGURATION_2) || self.driver_off()
     }
 
     // Drive 0 before the write, goal above 0 after it.
     fn spin_starts(self) -> bool
         ensures { result ≡ spin_starts self }
     {
-        if self.drive == 0 {
-            0 < self.goal()
-        } else {
-            false
-        }
-    }
-}
-
-// What so many bytes leave.
-fn left(fan: Fan, programmed: bool, count: usize) -> Written
-    ensures { (result.fan ≡ fan) × (result.programmed ≡ programmed) × (result.count ≡ count) }
-{
-    Written {
-        fan,
-        programmed,
-        count,
+        self.drive == 0 && 0 < self.goal()
     }
 }
 

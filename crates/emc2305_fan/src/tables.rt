@@ -15,19 +15,19 @@ const LEVELS: [u8; 8] = [76, 89, 102, 114, 127, 140, 153, 165];
 pub(crate) fn period_of(byte: u8) -> u8
     ensures { result ≡ get_or periods (byte % 8) 0 }
 {
-    PERIODS[(byte % 8) as usize]
+    PERIODS[usize::from(byte % 8)]
 }
 
 // The length that a Spin Up byte asks for.
 pub(crate) fn length_of(byte: u8) -> u8
     ensures { result ≡ get_or lengths (byte % 4) 0 }
 {
-    LENGTHS[(byte % 4) as usize]
+    LENGTHS[usize::from(byte % 4)]
 }
 
 // The level that a Spin Up byte asks for.
 pub(crate) fn level_of(byte: u8) -> u8
     ensures { result ≡ get_or levels (byte / 4 % 8) 0 }
 {
-    LEVELS[(byte / 4 % 8) as usize]
+    LEVELS[usize::from(byte / 4 % 8)]
 }

@@ -11,12 +11,11 @@ impl Fan {
         ensures { result ≡ sampled count power_up_watch self }
     {
         let fan = self.with_reading(count);
-        if fan.judged(power_up_watch) {
-            if fan.too_slow() {
-                return fan.stall();
-            }
+        if fan.judged(power_up_watch) && fan.too_slow() {
+            fan.stall()
+        } else {
+            fan
         }
-        fan
     }
 
     // The reading registers are the count times 8.
@@ -24,8 +23,9 @@ impl Fan {
     fn with_reading(mut self, count: u16) -> Fan
         ensures { result ≡ with_reading count self }
     {
-        self.registers[READING_HIGH] = (count / 32 % 256) as u8;
-        self.registers[READING_LOW] = (count % 32 * 8) as u8;
+        let [high, low] = count.wrapping_mul(8).to_be_bytes();
+        self.registers[READING_HIGH] = high;
+        self.registers[READING_LOW] = low;
         self
     }
 
@@ -33,15 +33,7 @@ impl Fan {
     fn judged(self, power_up_watch: bool) -> bool
         ensures { result ≡ judged power_up_watch self }
     {
-        if 0 < self.drive {
-            if self.spin.running {
-                false
-            } else {
-                !power_up_watch
-            }
-        } else {
-            false
-        }
+        0 < self.drive && !self.spin.running && !power_up_watch
     }
 
     // A stall sets the 25h bit, and in closed loop starts a spin-up.

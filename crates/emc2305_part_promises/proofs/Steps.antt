@@ -24,7 +24,7 @@ use Rattle.emc2305_chip.specs.State.{fan_count}
 use Rattle.emc2305_chip.specs.Watching.{fed_chip}
 use Rattle.emc2305_chip.specs.Registers.{at_defaults, unpowered, on_fan}
 use Rattle.emc2305_chip.specs.Ticks.{chip_ticked}
-use Rattle.emc2305.specs.declared.Answer.{Answer}
+use Rattle.emc2305.specs.Step.{Answer}
 use Rattle.emc2305.specs.Transfers.{byte_read}
 use Rattle.emc2305.specs.Step.{for_past, absent, step_number, taken, stepped}
 use Rattle.emc2305.proofs.Effects.{Powering, Idle, by_effect}

@@ -34,7 +34,7 @@ use Rattle.emc2305.proofs.Parts.{byte_part, taken_part, after_part}
 use Rattle.walks.specs.Sequence.{Handed}
 use Rattle.walks.specs.Sequence as any
 use Rattle.walks.proofs.Sequences.{first_rest}
-use Rattle.emc2305_run.specs.Device.{emc2305}
+use Rattle.emc2305.specs.Device.{emc2305}
 use Rattle.emc2305_promises.specs.Ramp.{next, is_taken, no_power_on}
 use Rattle.emc2305_promises.specs.Busy.{numbers_of}
 use Rattle.emc2305_part_promises.specs.Alike.{number_of, with_part, AsFive, past_fan, of_others, byte_kept, in_turn_kept, sent_kept, kept_from, next_kept, undriven_by, AnswersAlike}

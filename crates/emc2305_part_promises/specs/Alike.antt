@@ -17,7 +17,7 @@ use Rattle.emc2305.specs.Transfers.{passed, byte_written}
 use Rattle.emc2305.specs.Step.{for_past, absent, taken, stepped}
 use Rattle.emc2305.specs.Traffic.{stores_to, is_sample_of, is_wish_for}
 use Rattle.walks.specs.Sequence.{Handed}
-use Rattle.emc2305_run.specs.Device.{reply_given}
+use Rattle.emc2305.specs.Device.{reply_given}
 use Rattle.emc2305_promises.specs.Ramp.{next, is_taken}
 use Rattle.emc2305_promises.specs.Held.{read_from}
 

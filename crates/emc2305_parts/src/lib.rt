@@ -6,7 +6,7 @@ ghost use Rattle.std.specs.Prelude.{◌≡◌};
 ghost use Rattle.emc2305_parts.specs.Parts.{part_with, fans_of, reset_of, identity_of};
 
 // The parts that there are.
-#[derive(Clone, Copy)]
+#[derive(Clone, Copy, Debug, PartialEq, Eq)]
 pub enum Part {
     Emc2301,
     Emc2302,
@@ -15,7 +15,7 @@ pub enum Part {
 }
 
 // The bytes that power-on sets.
-#[derive(Clone, Copy)]
+#[derive(Clone, Copy, Debug, PartialEq, Eq)]
 pub struct Reset {
     // A fan's registers, by offset.
     pub fan: [u8; 16],
@@ -43,6 +43,9 @@ const TABLE_RESET: Reset = Reset {
 
 // Table 5.1's identity bytes, from FCh on: product features, product, manufacturer, revision.
 const TABLE_IDENTITY: [u8; 4] = [0x00, 0x34, 0x5D, 0x80];
+
+// Document 01 wants these three as constants of each part's own type. A trait over them would add its lines and take none away: no code is written for all parts
+// by their types, and each match below would keep its four arms.
 
 // The part with one fan.
 #[derive(Clone, Copy)]
@@ -93,7 +96,7 @@ impl Emc2305 {
 }
 
 impl Part {
-    // The part that a power-on with so many fans means: 1, 2 or 3, else the five-fan part.
+    // The part that a power-on with so many fans means: 1, 2 or 3, else the five-fan part. Any other number means that too, which a `From<u8>` would not say.
     pub fn with_fans(fans: u8) -> Part
         ensures { result ≡ part_with fans }
     {

@@ -28,7 +28,7 @@ use Rattle.walks.specs.Sequence as any
 use Rattle.emc2305_promises.specs.Ramp.{next, is_taken, after_all, throughout, taken_ticks, fan_of, undisturbed, Ramping}
 use Rattle.emc2305_promises.specs.Corollaries.{RefusedMeets, TicksTaken, UpdateTicks, updates_in, updates_made, Arrival, ticks_at, AtEachPoint, NeverPasses}
 use Rattle.walks.proofs.Sequences.{first_rest}
-use Rattle.emc2305_run.specs.Device.{emc2305}
+use Rattle.emc2305.specs.Device.{emc2305}
 use Rattle.emc2305_promises.proofs.Events.{by_taken}
 use Rattle.emc2305_promises.proofs.RampKept.{Ramped, no_ticks, off_before, chip_ticks, of_event_lem}
 use Rattle.emc2305_promises.proofs.Demand3.{div_then, moved_then, and_then, ramp_promise}

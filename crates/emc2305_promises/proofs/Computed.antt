@@ -6,7 +6,7 @@ use Rattle.laws.specs.Repeat.{repeated}
 use Rattle.eventlog.specs.Range.{range_number}
 use Rattle.eventlog.specs.Reading.{read_at}
 use Rattle.emc2305_fan.specs.Registers.{locked, shown, stores, power_on}
-use Rattle.emc2305_fan.specs.Ramp.{moved}
+use Rattle.ramps.specs.Ramp.{moved}
 use Rattle.emc2305_fan.specs.Drive.{goal, under_ramp, wished}
 use Rattle.emc2305_fan.specs.Spin.{spin_drive, started, too_slow, spin_failed, spin_over, spin_tick}
 use Rattle.emc2305_fan.specs.Tick.{updated, clock_ticked, ticked}

@@ -12,7 +12,7 @@ use Rattle.emc2305_chip.specs.declared.Chip.{Chip}
 use Rattle.walks.specs.Sequence as any
 use Rattle.emc2305_promises.specs.Ramp.{next, is_taken, after_all, taken_ticks, undisturbed, RampPromise}
 use Rattle.walks.proofs.Sequences.{first_rest}
-use Rattle.emc2305_run.specs.Device.{emc2305}
+use Rattle.emc2305.specs.Device.{emc2305}
 use Rattle.emc2305_promises.proofs.RampKept.{Ramped, no_ticks, of_event_lem}
 
 -- the whole parts of a sum, one summand after the other

@@ -22,7 +22,7 @@ use Rattle.emc2305_chip.specs.declared.Chip.{Chip}
 use Rattle.emc2305_chip.specs.State.{fan_count}
 use Rattle.emc2305_chip.specs.Registers.{at_defaults, cleared_at}
 use Rattle.emc2305_chip.proofs.Moves.{cleared_part}
-use Rattle.emc2305.specs.declared.Answer.{Answer}
+use Rattle.emc2305.specs.Step.{Answer}
 use Rattle.emc2305.specs.Transfers.{byte_written, byte_read}
 use Rattle.emc2305.specs.Step.{step_number, taken, stepped}
 use Rattle.emc2305.proofs.Effects.{by_effect}

@@ -35,7 +35,7 @@ use Rattle.emc2305.proofs.FansKept.{five_fans, other_fans}
 use Rattle.walks.specs.Sequence.{Handed}
 use Rattle.walks.specs.Sequence as any
 use Rattle.walks.proofs.Sequences.{first_rest}
-use Rattle.emc2305_run.specs.Device.{emc2305}
+use Rattle.emc2305.specs.Device.{emc2305}
 use Rattle.emc2305_promises.specs.Ramp.{next, is_taken, after_all, throughout, fan_of, no_power_on, no_stored_write}
 use Rattle.emc2305_promises.specs.Held.{no_sample_of, left_alone}
 use Rattle.emc2305_promises.proofs.Events.{by_taken, calm_part, Has, has}

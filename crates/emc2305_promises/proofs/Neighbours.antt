@@ -29,7 +29,7 @@ use Rattle.walks.specs.Sequence as any
 use Rattle.emc2305_promises.specs.Ramp.{next, is_taken, throughout, fan_of, watch_off}
 use Rattle.emc2305_promises.specs.Alone.{store, of_byte, of_bytes, of_write, of_reads, of_event, own_traffic, OthersAside}
 use Rattle.walks.proofs.Sequences.{first_rest}
-use Rattle.emc2305_run.specs.Device.{emc2305}
+use Rattle.emc2305.specs.Device.{emc2305}
 use Rattle.emc2305_promises.proofs.Events.{is_off_lem, by_taken, off_part, Has, has, has_byte}
 use Rattle.emc2305_promises.proofs.OwnBytes.{byte_own}
 use Rattle.emc2305_promises.proofs.OwnTraffic.{powering_own, idle_own, event_own, no_fan_waits}

@@ -26,10 +26,10 @@ use Rattle.emc2305.proofs.Effects.{Powering, Idle, by_effect}
 use Rattle.emc2305.proofs.FansKept.{five_fans}
 use Rattle.walks.specs.Sequence.{Handed}
 use Rattle.walks.specs.Sequence as any
-use Rattle.emc2305_promises.specs.Ramp.{next, is_taken, after_all, throughout, fan_of, watch_off}
+use Rattle.emc2305_promises.specs.Ramp.{next, is_taken, fan_of, watch_off}
 use Rattle.emc2305_promises.specs.Alone.{Own, tick, sample, wish, move_by, played, of_ticks, of_sample, of_wish, of_transfer, of_event, own_traffic, Alone, NoFanWaits}
 use Rattle.walks.proofs.Sequences.{first_rest}
-use Rattle.emc2305_run.specs.Device.{emc2305}
+use Rattle.emc2305.specs.Device.{emc2305}
 use Rattle.emc2305_promises.proofs.Events.{is_off_lem, same_fan, by_taken, off_part, Has, has}
 use Rattle.emc2305_promises.proofs.OwnBytes.{both, one_own, sent_own, reads_own}
 

@@ -1,7 +1,7 @@
 -- The part of a run between two of its records (specs/Trace.antt).
 use Rattle.walks.proofs.Sequences as any
-use Rattle.emc2305_run.specs.Device.{emc2305}
-use Rattle.emc2305_run.proofs.Steps.{lawful}
+use Rattle.emc2305.specs.Device.{emc2305}
+use Rattle.emc2305.proofs.Device.{lawful}
 use Rattle.emc2305_promises.specs.Trace.{walk_after, part, PartOfRun, RampInRun}
 use Rattle.emc2305_promises.proofs.Demand3.{ramp_promise}
 

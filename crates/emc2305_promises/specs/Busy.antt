@@ -9,7 +9,7 @@ use Rattle.emc2305_chip.specs.Registers.{unpowered}
 use Rattle.emc2305.specs.Step.{stepped}
 use Rattle.walks.specs.Run.{ended, run_of}
 use Rattle.walks.specs.Sequence.{Handed}
-use Rattle.emc2305_run.specs.Device.{emc2305}
+use Rattle.emc2305.specs.Device.{emc2305}
 use Rattle.emc2305_promises.specs.Ramp.{next, after_all, throughout, taken_ticks, fan_of, undisturbed, Ramping}
 use Rattle.emc2305_promises.specs.Corollaries.{updates_made}
 use Rattle.emc2305_promises.specs.Trace.{walk_after, part}

@@ -19,7 +19,7 @@ use Rattle.emc2305.specs.Step.{reply_to}
 use Rattle.emc2305.specs.Traffic.{is_sample_of}
 use Rattle.walks.specs.Run.{ended}
 use Rattle.walks.specs.Sequence.{Handed}
-use Rattle.emc2305_run.specs.Device.{emc2305}
+use Rattle.emc2305.specs.Device.{emc2305}
 use Rattle.emc2305_promises.specs.Ramp.{next, is_taken, after_all, throughout, fan_of, no_power_on, no_stored_write}
 use Rattle.emc2305_promises.specs.Trace.{walk_after, part}
 

@@ -11,7 +11,7 @@ use Rattle.emc2305_chip.specs.Fans.{fan_at}
 use Rattle.emc2305.specs.Traffic.{stores_to, is_sample, is_wish_for}
 use Rattle.walks.specs.Sequence.{Handed}
 use Rattle.walks.specs.Sequence as any
-use Rattle.emc2305_run.specs.Device.{emc2305}
+use Rattle.emc2305.specs.Device.{emc2305}
 
 -- a sequence of events on the EMC2305, each with the log and the room for a reply that are lent to its step (Sequence.antt of `walks`, for any device)
 -- the chip after an event

@@ -5,7 +5,7 @@ use Rattle.walks.specs.Run.{Walk}
 use Rattle.walks.specs.Sequence.{Handed}
 use Rattle.walks.specs.Sequence as any
 use Rattle.walks.specs.Promises as promised
-use Rattle.emc2305_run.specs.Device.{emc2305}
+use Rattle.emc2305.specs.Device.{emc2305}
 use Rattle.emc2305_promises.specs.Ramp.{throughout, taken_ticks, undisturbed, Ramping}
 
 -- how far a run has come after j of the records that it walks

@@ -25,7 +25,7 @@ use Rattle.emc2305_chip.specs.State.{fan_count}
 use Rattle.emc2305_chip.specs.Fans.{no_fan, fan_at}
 use Rattle.emc2305.specs.Step.{step_number, taken, stepped}
 use Rattle.emc2305.proofs.Numbers.{step_numbers, numbered}
-use Rattle.emc2305_run.proofs.Steps.{lawful}
+use Rattle.emc2305.proofs.Device.{lawful}
 use Rattle.emc2305_report.specs.Speeds.{gauge, speeds_of}
 use Rattle.emc2305_report.specs.Promises.{Numbers, Shown, FansApart, AbsentAside, SameReport, FiguresFit, LimitRule, AsRun, AfterLimit, LaterAside, AnyCutting, Kept, Onward, Finishes, EndedWants}
 use Rattle.emc2305_report.proofs.Fits.{speed_fits}

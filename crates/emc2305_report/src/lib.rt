@@ -7,90 +7,80 @@ ghost use Rattle.std.specs.Prelude.{◌≡◌, [], ◌∷◌};
 ghost use Rattle.windows.specs.Window.{Called};
 ghost use Rattle.reports.specs.Adding.{report};
 ghost use Rattle.reports.specs.Lines.{no_figures};
+ghost use Rattle.reports.specs.Report.{report_given};
 ghost use Rattle.emc2305_report.specs.Speeds.{gauge, speeds_of};
 
 use emc2305_chip::Chip;
-use reports::{Figures, Report, WRONG_POLES};
-use windows::Wants;
-
-// What a call gives: the chip and the figures after what was reported, the place there, how many bytes of the window that is, how many bytes of text were
-// laid, and what is wanted before it can go on.
-#[derive(Clone, Copy)]
-pub struct Told {
-    pub chip: Chip,
-    pub fans: [Figures; 5],
-    pub place: u64,
-    pub used: usize,
-    pub laid: usize,
-    pub wants: Wants,
-}
+use eventlog::Refusal;
+use reports::{Figures, Report, Reported};
+use windows::{Told, Wants};
 
 // The figures of five fans without samples.
 pub fn no_fans() -> [Figures; 5]
     ensures { result ≡ (no_figures ∷ no_figures ∷ no_figures ∷ no_figures ∷ no_figures ∷ []) }
 {
-    let none = reports::no_figures();
-    [none, none, none, none, none]
+    [Figures::none(); 5]
 }
 
 // The report over a whole log.
 pub fn speeds(log: &[u8], poles: u64) -> Report
-    ensures { result ≡ speeds_of poles log.now }
+    ensures { report_given result ≡ speeds_of poles log.now }
 {
     let fans = no_fans();
     if !emc2305_speed::poles_right(poles) {
         return Report {
-            number: WRONG_POLES,
+            stop: Some(Refusal::WrongPoles),
             place: 0,
             records: 0,
             fans,
         };
     }
-    let walked = walk::walk(poles, Chip::unpowered(), fans, log);
-    let fans = walked.fans;
+    let begun = Reported {
+        state: Chip::unpowered(),
+        fans,
+    };
+    let walked = walk::walk(poles, begun, log);
+    let fans = walked.reported.fans;
     Report {
-        number: walked.number,
+        stop: walked.stop,
         place: walked.place,
         records: walked.records,
         fans,
     }
 }
 
-// Reports the records that a window holds. The first byte of the window stands at `place` of the log. The text is laid at the report's end, where it fits;
-// with `ended` nothing follows the window.
+// Reports the records that a window holds, from the chip and the figures before it on. The first byte of the window stands at `place` of the log. The text is
+// laid at the report's end, where it fits; with `ended` nothing follows the window.
 pub fn tell(
     poles: u64,
-    chip: Chip,
-    fans: [Figures; 5],
+    reported: Reported<Chip>,
     place: u64,
     window: &[u8],
     ended: bool,
     out: &mut [u8],
-) -> Told
-    ensures { Called (report (gauge poles)) (record { state = chip; fans = fans }) place window.now ended out.old (record { state = result.chip; fans = result.fans }) result.place result.used result.laid result.wants out.new }
+) -> Told<Reported<Chip>>
+    ensures { Called (report (gauge poles)) reported place window.now ended out.old result.state result.place result.used result.laid result.wants out.new }
 {
-    let walked = walk::walk(poles, chip, fans, window);
-    let chip = walked.chip;
-    let fans = walked.fans;
+    let walked = walk::walk(poles, reported, window);
+    let state = walked.reported;
     let used = walked.place;
-    let here = std::num::wrapping_add_u64(place, used as u64);
+    let here = place.wrapping_add(used as u64);
     if windows::waits(ended, eventlog::read(window, used)) {
         return Told {
-            chip,
-            fans,
+            state,
             place: here,
             used,
             laid: 0,
             wants: Wants::Input,
         };
     }
-    let text = reports::lay(fans, here, walked.number, out);
+    let number = walked.stop.map_or(0, u8::from);
+    let text = reports::lay(state.fans, here, number, out);
     Told {
-        chip,
-        fans,
+        state,
         place: here,
         used,
-        laid: text.len,
-        wants: windows::wants_last(text.fits),
+        laid: text.unwrap_or(0),
+        wants: windows::wants_last(text.is_some()),
     }
 }

@@ -21,10 +21,10 @@ const EDGES: [u32; 4] = [3, 5, 7, 9];
 pub fn poles_right(poles: u64) -> bool
     ensures { result ≡ poles_right poles }
 {
-    1 <= poles && poles <= 4
+    (1..=4).contains(&poles)
 }
 
-// The RPM of a sample that met a Configuration 1 byte; 0 for count 0, and for poles out of range.
+// The RPM of a sample that met a Configuration 1 byte; 0 for count 0, and for poles out of range: a number and no Option, since C is answered it as it stands.
 pub fn rpm(poles: u64, configuration: u8, count: u16) -> u32
     ensures { result ≡ rpm_shown poles configuration count }
 {
@@ -34,10 +34,12 @@ pub fn rpm(poles: u64, configuration: u8, count: u16) -> u32
     if count == 0 {
         return 0;
     }
-    rpm_of(poles as u32, configuration, count as u32)
+    // Poles are 4 at most, so that nothing of them is cut off.
+    rpm_of(poles as u32, configuration, u32::from(count))
 }
 
 // One division, so that it is rounded once.
+#[tactic(auto, unfolding(crate::specs::Speed::rpm))]
 fn rpm_of(poles: u32, configuration: u8, count: u32) -> u32
     requires { (1 ≤ poles) × (poles ≤ 4) × (1 ≤ count) × (count ≤ 65535) }
     ensures { result ≡ rpm poles configuration count }
@@ -50,12 +52,12 @@ fn rpm_of(poles: u32, configuration: u8, count: u32) -> u32
 fn multiplier(configuration: u8) -> u32
     ensures { result ≡ multiplier configuration }
 {
-    MULTIPLIERS[(configuration / 32 % 4) as usize]
+    MULTIPLIERS[usize::from(configuration / 32 % 4)]
 }
 
 // The edges that are counted: 3, 5, 7, 9.
 fn edges(configuration: u8) -> u32
     ensures { result ≡ edges configuration }
 {
-    EDGES[(configuration / 8 % 4) as usize]
+    EDGES[usize::from(configuration / 8 % 4)]
 }

@@ -24,11 +24,12 @@ const BY_HIGH_BYTE: [u32; 256] = [
 ];
 
 // The RPM of the plain case at a count of 32 x byte; byte 0 answers 0.
+#[tactic(auto, using(crate::proofs::HighBytes::table_rule))]
 pub fn rpm_by_high_byte(byte: u8) -> u32
     ensures { result ≡ rpm_by_high_byte byte }
 {
     if byte == 0 {
         return 0;
     }
-    BY_HIGH_BYTE[byte as usize]
+    BY_HIGH_BYTE[usize::from(byte)]
 }

@@ -11,7 +11,7 @@ const LIMIT: u32 = 320;
 const LAST: u16 = 319;
 
 // Only one watch runs at a time. Each holds its count of ticks.
-#[derive(Clone, Copy)]
+#[derive(Clone, Copy, Debug, PartialEq, Eq)]
 pub enum Watch {
     Off,
     PowerUp(u16),
@@ -19,7 +19,7 @@ pub enum Watch {
 }
 
 // What passes before a watch fires: how many ticks, and the watch after them.
-#[derive(Clone, Copy)]
+#[derive(Clone, Copy, Debug, PartialEq, Eq)]
 pub struct Quiet {
     pub ticks: u16,
     pub watch: Watch,
@@ -30,11 +30,7 @@ impl Watch {
     pub fn in_power_up(self) -> bool
         ensures { result ≡ in_power_up self }
     {
-        match self {
-            Watch::Off => false,
-            Watch::PowerUp(_) => true,
-            Watch::Continuous(_) => false,
-        }
+        matches!(self, Watch::PowerUp(_))
     }
 
     // Whether the next tick makes it fire.
@@ -43,8 +39,7 @@ impl Watch {
     {
         match self {
             Watch::Off => false,
-            Watch::PowerUp(count) => reached(count),
-            Watch::Continuous(count) => reached(count),
+            Watch::PowerUp(count) | Watch::Continuous(count) => reached(count),
         }
     }
 
@@ -54,20 +49,10 @@ impl Watch {
     {
         match self {
             Watch::Off => Watch::Off,
-            Watch::PowerUp(count) => {
-                if reached(count) {
-                    Watch::Off
-                } else {
-                    Watch::PowerUp(count + 1)
-                }
-            }
-            Watch::Continuous(count) => {
-                if reached(count) {
-                    Watch::Continuous(0)
-                } else {
-                    Watch::Continuous(count + 1)
-                }
-            }
+            Watch::PowerUp(count) if reached(count) => Watch::Off,
+            Watch::PowerUp(count) => Watch::PowerUp(count + 1),
+            Watch::Continuous(count) if reached(count) => Watch::Continuous(0),
+            Watch::Continuous(count) => Watch::Continuous(count + 1),
         }
     }
 
@@ -102,9 +87,8 @@ impl Watch {
         ensures { result ≡ fed self }
     {
         match self {
-            Watch::Off => Watch::Off,
-            Watch::PowerUp(count) => Watch::PowerUp(count),
             Watch::Continuous(_) => Watch::Continuous(0),
+            _ => self,
         }
     }
 
@@ -113,9 +97,8 @@ impl Watch {
         ensures { result ≡ programmed self }
     {
         match self {
-            Watch::Off => Watch::Off,
             Watch::PowerUp(_) => Watch::Off,
-            Watch::Continuous(count) => Watch::Continuous(count),
+            _ => self,
         }
     }
 
@@ -127,9 +110,8 @@ impl Watch {
             return Watch::Continuous(0);
         }
         match self {
-            Watch::Off => Watch::Off,
-            Watch::PowerUp(count) => Watch::PowerUp(count),
             Watch::Continuous(_) => Watch::Off,
+            _ => self,
         }
     }
 }
@@ -138,16 +120,12 @@ impl Watch {
 fn reached(count: u16) -> bool
     ensures { result ≡ reached count }
 {
-    LIMIT <= count as u32 + 1
+    LIMIT <= u32::from(count) + 1
 }
 
 // Of so many ticks, those before the 320th.
 fn before_limit(passed: u16, count: u16) -> u16
     ensures { result ≡ min count (ticks_left passed) }
 {
-    if reached(passed) {
-        return 0;
-    }
-    let rest = LAST - passed;
-    if count < rest { count } else { rest }
+    count.min(LAST.saturating_sub(passed))
 }

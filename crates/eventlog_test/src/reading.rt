@@ -1,78 +1,51 @@
 // Cases of reading: at a place, every prefix of a log, every value of one byte of it, and a record read and written again.
-use crate::show;
-use eventlog::{Reading, Writing};
+use crate::show::{Part, Refused, read_at};
+use eventlog::Fault;
 use std::io;
-
-// Stands for the end of the log; none of the numbers given back.
-const END: u8 = 255;
+use test_commands::{Command, Hex};
 
 // The most bytes that a log of `vary` has.
 const SPACE: usize = 64;
 
 // The place, then the log.
-pub fn at_place(rt: &impl Print, case: &[u8]) -> io::Result<()> {
-    if case.len() == 0 {
+pub fn at_place(rt: &impl Print, case: Command<'_>) -> io::Result<()> {
+    let [_, log @ ..] = case.bytes else {
         return Ok(());
-    }
-    let place = crate::wide(case[0]);
-    let log = &case[1..];
-    show::titled(rt, b"read ", log)?;
-    show::named(rt, b" at ", place as u64)?;
-    show::text(rt, b": ")?;
-    show::reading(rt, log, place)
-}
-
-// What reading gave but for the event: its number, or END, and the place of a fault, else 0.
-#[derive(Clone, Copy)]
-struct Gave {
-    number: u8,
-    fault: usize,
+    };
+    let place = case.place(0);
+    print!(rt; "read {} at {place}: {}", Hex(log), read_at(log, place))
 }
 
 // What is given of every prefix, the empty one first.
 pub fn cut(rt: &impl Print, log: &[u8]) -> io::Result<()> {
-    show::titled(rt, b"cut ", log)?;
-    show::text(rt, b":")?;
+    print!(rt; "cut {}:", Hex(log))?;
     for len in 0..=log.len() {
-        show::text(rt, b" ")?;
-        show_given(rt, at_start(&log[0..len]))?;
+        print!(rt; " ")?;
+        show_found(rt, found_at_start(&log[..len]))?;
     }
     Ok(())
 }
 
-fn at_start(log: &[u8]) -> Gave {
-    match eventlog::read(log, 0) {
-        Reading::Record(_, _) => Gave {
-            number: 0,
-            fault: 0,
-        },
-        Reading::End => Gave {
-            number: END,
-            fault: 0,
-        },
-        Reading::Refused { number, fault } => Gave { number, fault },
-    }
+// What reading gives but for the event: whether there is a record.
+fn found_at_start(log: &[u8]) -> Result<bool, Fault> {
+    eventlog::read(log, 0).map(|found| found.is_some())
 }
 
-fn show_given(rt: &impl Print, gave: Gave) -> io::Result<()> {
-    let number = gave.number;
-    match number {
-        0 => show::text(rt, b"0"),
-        END => show::text(rt, b"end"),
-        _ => show::refusal(rt, number, gave.fault),
+fn show_found(rt: &impl Print, found: Result<bool, Fault>) -> io::Result<()> {
+    match found {
+        Ok(true) => print!(rt; "0"),
+        Ok(false) => print!(rt; "end"),
+        Err(fault) => print!(rt; "{}", Refused(fault)),
     }
 }
 
 // Which byte, then the log: 'value=number@place' where number or place are not those of the value before.
-pub fn vary(rt: &impl Print, case: &[u8]) -> io::Result<()> {
-    if case.len() == 0 {
+pub fn vary(rt: &impl Print, case: Command<'_>) -> io::Result<()> {
+    let [_, log @ ..] = case.bytes else {
         return Ok(());
-    }
-    let at = crate::wide(case[0]);
-    let log = &case[1..];
-    show::titled(rt, b"vary ", log)?;
-    show::named(rt, b" byte ", at as u64)?;
-    show::text(rt, b":")?;
+    };
+    let at = case.place(0);
+    print!(rt; "vary {} byte {at}:", Hex(log))?;
     if log.len() <= SPACE {
         let mut space = [0; SPACE];
         space[..log.len()].copy_from_slice(log);
@@ -85,35 +58,28 @@ fn vary_byte(rt: &impl Print, log: &mut [u8], at: usize) -> io::Result<()> {
     if log.len() <= at {
         return Ok(());
     }
-    let mut last = Gave {
-        number: END,
-        fault: 0,
-    };
+    let mut last = Ok(false);
     for value in 0..=255u8 {
         log[at] = value;
-        let gave = at_start(log);
-        if gave.number != last.number || gave.fault != last.fault {
-            show::named(rt, b" ", value as u64)?;
-            show::text(rt, b"=")?;
-            show_given(rt, gave)?;
+        let found = found_at_start(log);
+        if found != last {
+            print!(rt; " {value}=")?;
+            show_found(rt, found)?;
         }
-        last = gave;
+        last = found;
     }
     Ok(())
 }
 
 // A good record is read, and the event is written: the same bytes.
 pub fn again(rt: &impl Print, record: &[u8]) -> io::Result<()> {
-    show::text(rt, b"again ")?;
-    show::reading(rt, record, 0)?;
-    let Reading::Record(event, _) = eventlog::read(record, 0) else {
+    print!(rt; "again {}", read_at(record, 0))?;
+    let Ok(Some(found)) = eventlog::read(record, 0) else {
         return Ok(());
     };
     let mut space = [0; 40];
-    if let Writing::Laid(len) = eventlog::write(event, record, &mut space) {
-        show::named(rt, b" laid ", len as u64)?;
-        show::text(rt, b" ")?;
-        show::part(rt, &space, 0, len)?;
-    }
-    Ok(())
+    let Ok(len) = eventlog::write(found.event, record, &mut space) else {
+        return Ok(());
+    };
+    print!(rt; " laid {len} {}", Part(space.get(..len)))
 }

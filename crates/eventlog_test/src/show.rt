@@ -1,109 +1,90 @@
-// Text on standard output: numbers, bytes, events, what reading gives.
-use eventlog::{Event, Reading};
-use std::io;
-
-pub fn text(rt: &impl Print, bytes: &[u8]) -> io::Result<()> {
-    rt.write_all(bytes)
-}
-
-pub fn number(rt: &impl Print, n: u64) -> io::Result<()> {
-    print!(rt; "{n}")
-}
-
-// A word and a number after it.
-pub fn named(rt: &impl Print, word: &[u8], n: u64) -> io::Result<()> {
-    text(rt, word)?;
-    number(rt, n)
-}
-
-fn hex_byte(rt: &impl Print, b: u8) -> io::Result<()> {
-    print!(rt; "{b:02x}")
-}
-
-// Two digits a byte, or '-' where there is none.
-pub fn hex(rt: &impl Print, bytes: &[u8]) -> io::Result<()> {
-    if bytes.len() == 0 {
-        text(rt, b"-")?;
-    }
-    for k in 0..bytes.len() {
-        hex_byte(rt, bytes[k])?;
-    }
-    Ok(())
-}
-
-// A case's word and its bytes.
-pub fn titled(rt: &impl Print, word: &[u8], bytes: &[u8]) -> io::Result<()> {
-    text(rt, word)?;
-    hex(rt, bytes)
-}
+// What the lines show: events, bytes of a log, what reading gives.
+use eventlog::{Event, Fault, Record};
+use std::fmt;
+use test_commands::Hex;
 
 // Some bytes of a log, or '?' where they are not wholly within it.
-pub fn part(rt: &impl Print, log: &[u8], place: usize, len: usize) -> io::Result<()> {
-    if place <= log.len() {
-        if len <= log.len() - place {
-            return hex(rt, &log[place..place + len]);
+#[derive(Clone, Copy)]
+pub struct Part<'a>(pub Option<&'a [u8]>);
+
+impl fmt::Display for Part<'_> {
+    fn fmt<W: fmt::Write>(&self, f: &mut fmt::Formatter<W>) -> fmt::Result {
+        match self.0 {
+            Some(bytes) => write!(f, "{}", Hex(bytes)),
+            None => f.write_str("?"),
         }
     }
-    text(rt, b"?")
 }
 
-fn transfer(rt: &impl Print, word: &[u8], address: u8, place: usize, len: usize) -> io::Result<()> {
-    named(rt, word, address as u64)?;
-    named(rt, b" at ", place as u64)?;
-    named(rt, b" len ", len as u64)?;
-    text(rt, b" ")
+fn within(log: &[u8], place: usize, len: usize) -> Part<'_> {
+    Part(log.get(place..).and_then(|rest| rest.get(..len)))
 }
 
-pub fn event(rt: &impl Print, event: Event, log: &[u8]) -> io::Result<()> {
-    match event {
-        Event::PowerOn(address) => named(rt, b"power-on ", address as u64),
-        Event::Ticks(count) => named(rt, b"ticks ", count as u64),
-        Event::Sample { fan, count } => {
-            named(rt, b"sample ", fan as u64)?;
-            named(rt, b" ", count as u64)
-        }
-        Event::Wish { fan, drive } => {
-            named(rt, b"wish ", fan as u64)?;
-            named(rt, b" ", drive as u64)
-        }
-        Event::Transfer {
-            reads,
-            address,
-            place,
-            len,
-        } => {
-            if reads {
-                transfer(rt, b"clock ", address, place, len)?;
-            } else {
-                transfer(rt, b"send ", address, place, len)?;
+// An event, with the log that it points into.
+#[derive(Clone, Copy)]
+pub struct Shown<'a> {
+    pub event: Event,
+    pub log: &'a [u8],
+}
+
+impl fmt::Display for Shown<'_> {
+    fn fmt<W: fmt::Write>(&self, f: &mut fmt::Formatter<W>) -> fmt::Result {
+        match self.event {
+            Event::PowerOn(address) => write!(f, "power-on {address}"),
+            Event::Ticks(count) => write!(f, "ticks {count}"),
+            Event::Sample { fan, count } => write!(f, "sample {fan} {count}"),
+            Event::Wish { fan, drive } => write!(f, "wish {fan} {drive}"),
+            Event::Transfer {
+                reads,
+                address,
+                place,
+                len,
+            } => {
+                let word = if reads { "clock" } else { "send" };
+                let bytes = within(self.log, place, len);
+                write!(f, "{word} {address} at {place} len {len} {bytes}")
             }
-            part(rt, log, place, len)
-        }
-        Event::PowerOnPart { address, fans } => {
-            named(rt, b"part-on ", address as u64)?;
-            named(rt, b" ", fans as u64)
+            Event::PowerOnPart { address, fans } => write!(f, "part-on {address} {fans}"),
         }
     }
 }
 
 // A refusal of reading: its number and the place of the first faulty byte.
-pub fn refusal(rt: &impl Print, given: u8, fault: usize) -> io::Result<()> {
-    number(rt, given as u64)?;
-    named(rt, b"@", fault as u64)
+#[derive(Clone, Copy)]
+pub struct Refused(pub Fault);
+
+impl fmt::Display for Refused {
+    fn fmt<W: fmt::Write>(&self, f: &mut fmt::Formatter<W>) -> fmt::Result {
+        let number = u8::from(self.0.refusal);
+        let place = self.0.place;
+        write!(f, "{number}@{place}")
+    }
 }
 
-// What reading at a place gives: 0 with the place after the record and its event, 'end', or the refusal.
-pub fn reading(rt: &impl Print, log: &[u8], place: usize) -> io::Result<()> {
-    match eventlog::read(log, place) {
-        Reading::Record(found, next) => {
-            named(rt, b"0 next ", next as u64)?;
-            text(rt, b" ")?;
-            event(rt, found, log)
+// What reading a log gave: 0 with the place after the record and its event, 'end', or the refusal.
+#[derive(Clone, Copy)]
+pub struct Given<'a> {
+    pub reading: Result<Option<Record>, Fault>,
+    pub log: &'a [u8],
+}
+
+impl fmt::Display for Given<'_> {
+    fn fmt<W: fmt::Write>(&self, f: &mut fmt::Formatter<W>) -> fmt::Result {
+        match self.reading {
+            Ok(Some(Record { event, next })) => {
+                let log = self.log;
+                write!(f, "0 next {next} {}", Shown { event, log })
+            }
+            Ok(None) => f.write_str("end"),
+            Err(fault) => write!(f, "{}", Refused(fault)),
         }
-        Reading::End => text(rt, b"end"),
-        Reading::Refused {
-            number: given,
-            fault,
-        } => refusal(rt, given, fault),
+    }
+}
+
+// What reading gives at a place.
+pub fn read_at(log: &[u8], place: usize) -> Given<'_> {
+    Given {
+        reading: eventlog::read(log, place),
+        log,
     }
 }

@@ -32,7 +32,7 @@ unfolding moved
 down d g n h = by_test (leb d g) (λ t. rw t (omega (arith, leb-true d g t))) (λ f. rw f (omega arith))
 
 -- a move comes to the goal just where it is as long as the distance
-pub there : (d g n : ℕ) → moved d g n ≡ g ↔ distance d g ≤ n
+there : (d g n : ℕ) → moved d g n ≡ g ↔ distance d g ≤ n
 there d g n = by_way d g (λ h. rw (up d g n h) (λ e. omega arith, λ l. omega arith)) (λ h. rw (down d g n h) (λ e. omega arith, λ l. omega arith))
 
 -- how far a move goes, and how far it has yet to go

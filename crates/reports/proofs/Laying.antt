@@ -1,12 +1,11 @@
 -- The lines of the fans, laid one behind the other in a buffer that has room for the longest report.
-use Rattle.std.proofs.Common.{◌≡◌, ℕ, zero, suc, ◌+◌, ◌*◌, ◌<◌, ◌≤◌, List, ◌++◌, length, get_or, ap, ◌∙◌, add-one, arith, length-append, le-leb}
+use Rattle.std.proofs.Common.{◌≡◌, Some, None, ℕ, zero, suc, ◌+◌, ◌*◌, ◌<◌, ◌≤◌, List, ◌++◌, length, get_or, ap, add-one, arith, length-append}
 use Rattle.laws.specs.Buffer.{laid_over}
 use Rattle.laws.proofs.Buffer.{lent_from, back_from}
 use Rattle.laws.proofs.Laid.{Laid, same_length}
-use Rattle.text.specs.declared.Piece.{Piece}
 use Rattle.text.specs.Text.{row_of, report_end}
 use Rattle.text.proofs.Lines.{row_length, report_end_length}
-use Rattle.text.proofs.Wholes.{Whole, says_fits, taken}
+use Rattle.text.proofs.Wholes.{Whole, taken, not_taken}
 use Rattle.reports.specs.declared.Figures.{Figures}
 use Rattle.reports.specs.Lines.{no_figures, figures_row, fan_lines, report_text}
 
@@ -38,30 +37,41 @@ module _ (fans : List Figures) (out₀ out : List ℕ) (at i : ℕ) (l : Lining 
   keeps = same_length out₀ out at (fan_lines i fans) l.lain (omega (arith, l.short, l.few, l.long))
 
   -- one more
-  module _ (next : i < 5) (row : List ℕ) (is : row ≡ figures_row (get_or fans i no_figures)) (p : Piece) (part : List ℕ)
-      (says : Whole (row_of (i + 1) row) (lent_from at out) p part) where
+  module _ (next : i < 5) (row : List ℕ) (is : row ≡ figures_row (get_or fans i no_figures)) (part : List ℕ) where
+    abbrev line : List ℕ
+    line = row_of (i + 1) row
+
     behind : at ≤ length out₀
     behind = omega (arith, l.short, l.few, l.long)
 
-    five : length (row_of (i + 1) row) ≤ 126
+    five : length line ≤ 126
     five = omega (arith, row_length (i + 1) row, ap length is)
 
-    laid_on : Laid out₀ (back_from at out part) (at + p.len) (fan_lines i fans ++ row_of (i + 1) row)
-    laid_on =
-        taken out₀ out at (fan_lines i fans) l.lain behind (row_of (i + 1) row) p part says
-        (says_fits out₀ out at (fan_lines i fans) l.lain behind (row_of (i + 1) row) p part says
-        ∙ le-leb (length (fan_lines i fans) + length (row_of (i + 1) row)) (length out₀)
-        (omega (arith, l.lain.counts, l.short, l.few, l.long, five, next)))
+    -- it has room
+    pub no_none : Whole line (lent_from at out) None part → ⊥
+    no_none says =
+        omega (
+          arith,
+          not_taken out₀ out at (fan_lines i fans) l.lain behind line part says,
+          length-append (fan_lines i fans) line,
+          l.lain.counts,
+          l.short,
+          l.few,
+          l.long,
+          five,
+          next,
+        )
 
     more : fan_lines i fans ++ row_of (i + 1) row ≡ fan_lines (i + 1) fans
     unfolding fan_lines
     more = rw (is, add-one i)
 
-    pub line_on : Lining fans out₀ (back_from at out part) (at + p.len) (i + 1)
-    line_on =
+    pub line_on : (n : ℕ) → Whole line (lent_from at out) (Some n) part → Lining fans out₀ (back_from at out part) (at + n) (i + 1)
+    line_on n says =
+        let laid_on = taken out₀ out at (fan_lines i fans) l.lain behind line part n says in
         record {
           few = omega arith;
-          short = omega (arith, l.short, five, laid_on.counts, l.lain.counts, length-append (fan_lines i fans) (row_of (i + 1) row));
+          short = omega (arith, l.short, five, laid_on.counts, l.lain.counts, length-append (fan_lines i fans) line);
           long = l.long;
           lain = rw (← more) laid_on;
         }
@@ -78,11 +88,19 @@ module _ (fans : List Figures) (place number : ℕ) (out₀ out : List ℕ) (lon
   pub fans_within : at ≤ length out
   fans_within = rw (same_length out₀ out at (fan_lines 5 fans) fans_laid behind_fans) behind_fans
 
-  pub text_laid : (p : Piece) (part : List ℕ) → Whole (report_end place number) (lent_from at out) p part
-      → Laid out₀ (back_from at out part) (at + p.len) (report_text fans place number)
-  unfolding report_text
-  text_laid p part says =
-      taken out₀ out at (fan_lines 5 fans) fans_laid behind_fans (report_end place number) p part says
-      (says_fits out₀ out at (fan_lines 5 fans) fans_laid behind_fans (report_end place number) p part says
-      ∙ le-leb (length (fan_lines 5 fans) + length (report_end place number)) (length out₀)
-      (omega (arith, long, lines_length 5 fans, report_end_length place number)))
+  module _ (part : List ℕ) where
+    pub no_end : Whole (report_end place number) (lent_from at out) None part → ⊥
+    no_end says =
+        omega (
+          arith,
+          not_taken out₀ out at (fan_lines 5 fans) fans_laid behind_fans (report_end place number) part says,
+          length-append (fan_lines 5 fans) (report_end place number),
+          long,
+          lines_length 5 fans,
+          report_end_length place number,
+        )
+
+    pub text_laid : (n : ℕ) → Whole (report_end place number) (lent_from at out) (Some n) part
+        → Laid out₀ (back_from at out part) (at + n) (report_text fans place number)
+    unfolding report_text
+    text_laid n says = taken out₀ out at (fan_lines 5 fans) fans_laid behind_fans (report_end place number) part n says

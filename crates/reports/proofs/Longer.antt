@@ -3,8 +3,7 @@ use Rattle.std.proofs.Common.{◌≡◌, ℕ, ◌+◌, ◌^◌, ◌<◌, true, f
 use borrow.Author.Tests.{eqb-false}
 use Rattle.laws.proofs.Tests.{by_test}
 use Rattle.eventlog.specs.declared.Event.{Event}
-use Rattle.eventlog.specs.declared.Reading.TheVariants.{Record}
-use Rattle.eventlog.specs.Reading.{read_at}
+use Rattle.eventlog.specs.Reading.{Record, read_at}
 use Rattle.eventlog.proofs.Accepted.{accepted, read_good}
 use Rattle.eventlog.proofs.ByKind.{no_sample}
 use Rattle.eventlog.proofs.SaidElsewhere.{said_longer}
@@ -12,9 +11,8 @@ use Rattle.records.proofs.AllRecords.{record_then}
 use Rattle.records.proofs.Along.{over, along, records_at, none_at}
 use Rattle.walks.specs.Device.{Lawful}
 use Rattle.windows.proofs.Tellings.{record_longer}
-use Rattle.reports.specs.declared.Report.{Report}
 use Rattle.reports.specs.Samples.{Gauge, is_taken}
-use Rattle.reports.specs.Report.{report_of}
+use Rattle.reports.specs.Report.{Report, report_of}
 use Rattle.reports.specs.Adding.{Reported, at_full, with_event, past_limit, fans_after, report, Come, come_over, come_from}
 use Rattle.reports.specs.Promises.{AfterLimit, NoSamples, LaterAside}
 use Rattle.reports.proofs.Limits.{not_fourteen}

@@ -1,2 +1,3 @@
-pub mod Moving
-pub mod Taking
+pub mod Arguments
+pub mod Reading
+pub mod Saying

@@ -12,3 +12,7 @@ line_end = 0x0A ∷ []
 -- known bytes grow by a line: what it is about, a colon, and some words
 abbrev pub SaysOf : Option (List ℕ) → Option (List ℕ) → List ℕ → Type 0
 SaysOf old new what = (words : List ℕ) × Appends old new (what ++ (colon ++ (words ++ line_end)))
+
+-- known bytes stay, and some may follow
+abbrev pub Grows : Option (List ℕ) → Option (List ℕ) → Type 0
+Grows old new = (text : List ℕ) × Appends old new text

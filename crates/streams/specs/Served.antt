@@ -1,9 +1,16 @@
 -- What a window holds after a call that used some of it. What a read gives comes from outside: no definition says it.
-use Rattle.std.specs.Prelude.{ℕ, ◌+◌, ◌-◌, ◌≤◌, ◌≡◌, Bool, true, false, List, length, take}
+use Rattle.std.specs.Prelude.{ℕ, ◌+◌, ◌-◌, ◌≤◌, ◌≡◌, Bool, true, false, cond, leb, ◌&&◌, List, length, take, Option, None, Some, Result, Ok, Err}
 use Rattle.laws.specs.Buffer.{bytes_at}
 use Rattle.windows.specs.declared.Wants.{Wants}
 use Rattle.windows.specs.declared.Wants.TheVariants.{Input, Room, Nothing}
-use Rattle.streams.specs.declared.Held.{Held}
+use Rattle.streams.specs.declared.Held.{Held as HeldThere}
+
+-- what a window holds between two calls: its bytes between two places are read and not yet used; whether the input has ended, and whether to go on
+pub record Held : Type 0 where
+  pub from : ℕ
+  pub held : ℕ
+  pub ended : Bool
+  pub going : Bool
 
 -- nothing is held yet
 abbrev pub begun : Held
@@ -44,3 +51,26 @@ pub record Served (hold : Held) (used : ℕ) (wants : Wants) (window : List ℕ)
   pub within : (r.from ≤ r.held) × (r.held ≤ length last)
   pub serves : Fits hold used window → ByWants wants hold used window r last
   pub refuses : (Fits hold used window → ⊥) → (r ≡ over) × (last ≡ window)
+
+-- what the code's value says is held, and whether it goes on
+abbrev pub going_on : HeldThere → Bool → Held
+going_on hold going = record { from = hold.from; held = hold.held; ended = hold.ended; going = going }
+
+-- what is held where there is nothing to go on with: what was not used, if that fits
+abbrev pub stopped : Held → ℕ → List ℕ → Held
+stopped hold used window = cond (leb (hold.from + used) hold.held && leb hold.held (length window)) (used_up hold used false) over
+
+-- what is held where a read fails: so many bytes at the front of the window, and there is nothing to go on with
+abbrev pub unread : ℕ → Held
+unread n = record { from = 0; held = n; ended = false; going = false }
+
+-- what a read behind so many bytes says is held
+abbrev pub read_of : {E : Type 0} → Result HeldThere E → ℕ → Held
+read_of (Ok next) n = going_on next true
+read_of (Err error) n = unread n
+
+-- what an answer of `served` says is held
+abbrev pub held_of : {E : Type 0} → Result (Option HeldThere) E → Held → ℕ → List ℕ → Held
+held_of (Ok (Some next)) hold used window = going_on next true
+held_of (Ok None) hold used window = stopped hold used window
+held_of (Err error) hold used window = unread (hold.held - (hold.from + used))

@@ -2,256 +2,179 @@
 // What the system gives and takes comes through std's traits, which a clause knows little of: so only programs use it.
 #![tactic(auto)]
 
-ghost use Rattle.std.specs.Prelude.{◌≡◌, true, ◌+◌, ◌-◌, ◌≤◌, length, take, OnOk};
-ghost use Rattle.std.specs.Io.KnownBytes.{Appends};
+ghost use Rattle.std.specs.Prelude.{◌≡◌, true, ◌+◌, ◌-◌, ◌≤◌, length, take, IsOk, OnOk, OnErr};
+ghost use Rattle.std.specs.Io.KnownBytes.{Appends, Consumes};
+ghost use Rattle.windows.specs.declared.Wants.TheVariants.{Input};
 ghost use Rattle.laws.specs.Buffer.{bytes_at};
-ghost use Rattle.streams.specs.Served.{begun, Moved, ReadOn, Served};
+ghost use Rattle.streams.specs.Served.{begun, going_on, held_of, read_of, ReadOn, Served};
 ghost use Rattle.streams.specs.Said.{SaysOf};
-ghost use Rattle.streams.specs.Arguments.{help_word, Asked, IsPrefixLen};
+ghost use Rattle.streams.specs.Arguments.{help_word, asks_of, len_of, Asked, IsPrefixLen};
 
 use std::env::{Env, FillError};
 use std::io;
 use std::io::{ErrorKind, Read, Write};
 use windows::Wants;
 
-// What a window holds between two calls: window[from..held] is read and not yet used. Then whether the input has ended, and whether to go on.
-#[derive(Clone, Copy)]
+mod telling;
+
+pub use telling::{Named, Teller, tell_all};
+
+// What a window holds between two calls: window[from..held] is read and not yet used. Then whether the input has ended. Places and no slice, since the
+// next read writes to the window.
+#[derive(Clone, Copy, Debug, PartialEq, Eq)]
 pub struct Held {
     pub from: usize,
     pub held: usize,
     pub ended: bool,
-    pub going: bool,
 }
 
-// Nothing is held, and there is nothing to go on with.
-const OVER: Held = Held {
-    from: 0,
-    held: 0,
-    ended: false,
-    going: false,
-};
-
-// What a program's arguments are: none, `--help` alone, another one alone, one that is longer than the buffer, or several.
-#[derive(Clone, Copy)]
+// What a program's arguments are: none, `--help` alone, another one alone, with its length in the buffer, one that is longer than that, or several.
+// A length and no slice: a buffer that is lent on into the answer has no value after the call, and `IsPrefixLen` and `Asked` say what it holds then.
+#[derive(Clone, Copy, Debug, PartialEq, Eq)]
 pub enum Asks {
     Nothing,
     Help,
-    One,
+    One(usize),
     Long,
     Many,
 }
 
-// That, and how many bytes of the buffer an argument has that stands alone and fits, else 0.
-#[derive(Clone, Copy)]
-pub struct Arguments {
-    pub asks: Asks,
-    pub len: usize,
+// What a program could not do: what a message about it begins with, and the error.
+#[derive(Drop)]
+pub struct Failure<'a> {
+    pub what: &'a [u8],
+    pub error: io::Error,
 }
 
 impl Held {
     // Nothing is held yet.
     pub fn begun() -> Self
-        ensures { result ≡ begun }
+        ensures { going_on result true ≡ begun }
     {
         Self {
             from: 0,
             held: 0,
             ended: false,
-            going: true,
         }
     }
 
-    // What is held after a call that used so many bytes. It reads on where the call wants input, and goes on where it wants room. Where what was held
-    // does not fit the window, or was less, it is over. A message about the input begins with `what`.
-    pub fn served<R: Read, E: Write>(
+    // What is held after a call that used so many bytes, or none where it is over: the call wants nothing, or what was held does not fit the window, or
+    // was less. It reads on where the call wants input, and goes on where it wants room.
+    pub fn served<R: Read>(
         self,
         used: usize,
         wants: Wants,
         input: &mut R,
-        errors: &mut E,
-        what: &[u8],
         window: &mut [u8],
-    ) -> Self
-        ensures { Served self used wants window.old result window.new }
+    ) -> io::Result<Option<Self>>
+        ensures served { Served (going_on self true) used wants window.old (held_of result (going_on self true) used window.old) window.new }
+        ensures failed { OnErr result (wants ≡ Input) }
     {
         let held = self.held;
         if window.len() < held || held < self.from || held - self.from < used {
-            return OVER;
+            return Ok(None);
         }
         let from = self.from + used;
-        let ended = self.ended;
         match wants {
-            Wants::Input => read_on(from, held, input, errors, what, window),
-            Wants::Room => Self {
-                from,
-                held,
-                ended,
-                going: true,
-            },
-            Wants::Nothing => Self {
-                from,
-                held,
-                ended,
-                going: false,
-            },
+            Wants::Input => Ok(Some(read_on(from, held, input, window)?)),
+            Wants::Room => Ok(Some(Self { from, ..self })),
+            Wants::Nothing => Ok(None),
         }
     }
 }
 
 // Moves what is held to the front of the window and reads once behind it. A read that a signal interrupts gives nothing: the next call asks for it again.
-fn read_on<R: Read, E: Write>(
-    from: usize,
-    held: usize,
-    input: &mut R,
-    errors: &mut E,
-    what: &[u8],
-    window: &mut [u8],
-) -> Held
+fn read_on<R: Read>(from: usize, held: usize, input: &mut R, window: &mut [u8]) -> io::Result<Held>
     requires { (from ≤ held) × (held ≤ length window.old) }
-    ensures { ReadOn (bytes_at window.old from (held - from)) result window.new }
+    ensures { ReadOn (bytes_at window.old from (held - from)) (read_of result (held - from)) window.new }
 {
     let rest = held - from;
-    move_to_front(window, from, rest);
+    window.copy_within(from..held, 0);
     match input.read(&mut window[rest..]) {
-        Ok(got) => Held {
+        Ok(got) => Ok(Held {
             from: 0,
             held: rest + got,
             ended: got == 0,
-            going: true,
-        },
-        Err(error) => Held {
+        }),
+        Err(error) if error.kind() == ErrorKind::Interrupted => Ok(Held {
             from: 0,
             held: rest,
             ended: false,
-            going: goes_on(errors, what, error),
-        },
+        }),
+        Err(error) => Err(error),
     }
 }
 
-// Whether to ask again after an error: where a signal interrupted the call. Any other error is told, and lost where the errors take no more.
-fn goes_on<E: Write>(errors: &mut E, what: &[u8], error: io::Error) -> bool {
-    let interrupted = error.kind() == ErrorKind::Interrupted;
-    if !interrupted {
-        let _ = fail(errors, what, error);
+// Writes a text whole.
+pub fn write_out<W: Write>(output: &mut W, text: &[u8]) -> io::Result<()>
+    ensures empty { length text.now ≡ 0 → IsOk result }
+    ensures whole { OnOk result (Appends (W.contents output.old) (W.contents output.new) text.now) }
+{
+    if text.is_empty() {
+        return Ok(());
     }
-    interrupted
-}
-
-// Moves the n bytes at `from` to the front.
-fn move_to_front(window: &mut [u8], from: usize, n: usize)
-    requires { from + n ≤ length window.old }
-    ensures { Moved window.old from n window.new }
-{
-    let mut i = 0;
-    while i < n {
-        window[i] = window[from + i];
-        i += 1;
-    }
-}
-
-// Writes a text whole; false where the output does not take it, with a message that begins with `what`.
-pub fn write_out<W: Write, E: Write>(
-    output: &mut W,
-    errors: &mut E,
-    text: &[u8],
-    what: &[u8],
-) -> bool
-    ensures empty { length text.now ≡ 0 → result ≡ true }
-    ensures whole { result ≡ true → Appends (W.contents output.old) (W.contents output.new) text.now }
-{
-    taken(output, errors, text, what) >= text.len()
-}
-
-// How many bytes of a text the output takes: all, or those before a write that fails, which is told. A write that a signal interrupts is tried again. A
-// proved loop ends, and nothing says that signals do: it has more turns than they use up.
-fn taken<W: Write, E: Write>(output: &mut W, errors: &mut E, text: &[u8], what: &[u8]) -> usize
-    ensures within { result ≤ length text.now }
-    ensures bytes { Appends (W.contents output.old) (W.contents output.new) (take result text.now) }
-{
-    let mut done = 0;
-    for _ in 0..u64::MAX {
-        if done >= text.len() {
-            break;
+    match output.write_all(text) {
+        // In the words of the kind, and not of std's text.
+        Err(error) if error.kind() == ErrorKind::WriteZero => {
+            Err(io::Error::from(ErrorKind::WriteZero))
         }
-        match output.write(&text[done..]) {
-            Ok(0) => {
-                let _ = fail(errors, what, io::Error::from(ErrorKind::WriteZero));
-                break;
-            }
-            Ok(put) => done += put,
-            Err(error) => {
-                if !goes_on(errors, what, error) {
-                    break;
-                }
-            }
-        }
+        result => result,
     }
-    done
 }
 
-// Writes a line to the errors: what failed, a colon and the error's text. A part that is not taken keeps no other from being written.
-pub fn fail<E: Write>(errors: &mut E, what: &[u8], error: io::Error) -> io::Result<()>
-    ensures { OnOk result (SaysOf (E.contents errors.old) (E.contents errors.new) what.now) }
-{
-    let mut text = [0u8; 256];
-    let mut rest = &mut text[..];
-    write!(rest, "{error}")?;
-    let name = errors.write_all(what);
-    let colon = errors.write_all(b": ");
-    let words = errors.write_all(&text[..words_len(&text)]);
-    let end = errors.write_all(b"\n");
-    name?;
-    colon?;
-    words?;
-    end?;
-    Ok(())
+impl Failure<'_> {
+    // Writes a line to the errors: what failed, a colon and the error's text. A part that is not taken keeps no other from being written.
+    pub fn say<E: Write>(&self, errors: &mut E) -> io::Result<()>
+        ensures { OnOk result (SaysOf (E.contents errors.old) (E.contents errors.new) self.now.what.now) }
+    {
+        let mut text = [0u8; 256];
+        let mut rest = &mut text[..];
+        write!(rest, "{}", self.error)?;
+        let name = errors.write_all(self.what);
+        let colon = errors.write_all(b": ");
+        let words = errors.write_all(&text[..words_len(&text)]);
+        let end = errors.write_all(b"\n");
+        name?;
+        colon?;
+        words?;
+        end?;
+        Ok(())
+    }
 }
 
 // How many bytes of an error's text are the system's words, which its number follows in brackets or zeros.
 fn words_len(text: &[u8]) -> usize
     ensures { result ≤ length text.now }
 {
-    for k in 0..text.len() {
-        if text[k] == 0 || text[k..].starts_with(b" (os error ") {
-            return k;
-        }
+    (0..text.len())
+        .find(|&k| text[k] == 0 || text[k..].starts_with(b" (os error "))
+        .unwrap_or(text.len())
+}
+
+// Reads until the space is full, the input ends or a read fails.
+pub fn read_full<'a, R: Read>(input: &mut R, space: &'a mut [u8]) -> &'a [u8]
+    ensures within { length result.now ≤ length space.old }
+    ensures bytes { Consumes (R.remaining input.old) (R.remaining input.new) result.now }
+{
+    let mut len = 0;
+    while let Ok(got @ 1..) = input.read(&mut space[len..]) {
+        len += got;
     }
-    text.len()
+    &space[..len]
 }
 
 // What the program's arguments are. One that stands alone is put at the front of the buffer, or as much of it as fits.
-pub fn read_arguments<E: Env>(env: &E, buffer: &mut [u8]) -> Arguments
-    ensures { IsPrefixLen result.len buffer.new × Asked result.asks (take result.len buffer.new) }
+pub fn read_arguments<E: Env>(env: &E, buffer: &mut [u8]) -> Asks
+    ensures { IsPrefixLen (len_of result) buffer.new × Asked (asks_of result) (take (len_of result) buffer.new) }
 {
-    let second = env.arg(2, &mut []);
-    if !matches!(second, Err(FillError::NotPresent)) {
-        return Arguments {
-            asks: Asks::Many,
-            len: 0,
-        };
+    if !matches!(env.arg(2, &mut []), Err(FillError::NotPresent)) {
+        return Asks::Many;
     }
     match env.arg(1, buffer) {
-        Ok(len) => {
-            if is_help(&buffer[..len]) {
-                Arguments {
-                    asks: Asks::Help,
-                    len,
-                }
-            } else {
-                Arguments {
-                    asks: Asks::One,
-                    len,
-                }
-            }
-        }
-        Err(FillError::NotPresent) => Arguments {
-            asks: Asks::Nothing,
-            len: 0,
-        },
-        Err(FillError::TooLong) => Arguments {
-            asks: Asks::Long,
-            len: 0,
-        },
+        Ok(len) if is_help(&buffer[..len]) => Asks::Help,
+        Ok(len) => Asks::One(len),
+        Err(FillError::NotPresent) => Asks::Nothing,
+        Err(FillError::TooLong) => Asks::Long,
     }
 }
 

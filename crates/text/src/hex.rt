@@ -1,4 +1,4 @@
-// Bytes in hex.
+// Bytes in hex, by hand as numbers are (numbers.rt).
 ghost use Rattle.std.specs.Prelude.{◌≡◌, ◌*◌, ◌≤◌, length};
 ghost use Rattle.laws.specs.Buffer.{laid_over};
 ghost use Rattle.text.specs.Text.{hex_digit, hex_byte, hex_bytes};
@@ -8,14 +8,10 @@ pub(crate) fn lay_bytes(bytes: &[u8], out: &mut [u8]) -> usize
     requires { 3 * length bytes.now ≤ length out.old }
     ensures { (result ≡ length (hex_bytes bytes.now)) × (out.new ≡ laid_over (hex_bytes bytes.now) out.old) }
 {
-    let mut i = 0;
-    let mut at = 0;
-    while i < bytes.len() {
-        lay_byte(bytes[i], &mut out[at..]);
-        at += 3;
-        i += 1;
+    for (i, byte) in bytes.iter().enumerate() {
+        lay_byte(*byte, &mut out[3 * i..]);
     }
-    at
+    3 * bytes.len()
 }
 
 // A space and two capital hex digits.

@@ -1,22 +1,14 @@
-// Numbers in decimal.
+// Numbers in decimal. By hand and not by Display: the contracts give each byte that is laid, at its place in a lent buffer, with no heap.
 ghost use Rattle.std.specs.Prelude.{◌≡◌, ◌≤◌, length};
 ghost use Rattle.laws.specs.Buffer.{laid_over};
 ghost use Rattle.text.specs.Text.{decimal};
 
-// How many digits a number has. It has 20 at most, and 10 to the 20 is more than `bound` holds.
+// How many digits a number has: one more than its logarithm; 0, which has none, has one digit.
 pub(crate) fn digits(n: u64) -> usize
-    ensures { result ≡ length (decimal n) }
+    ensures counts { result ≡ length (decimal n) }
+    ensures few { result ≤ 20 }
 {
-    let mut count = 1;
-    let mut bound = 10u64;
-    while bound <= n {
-        count += 1;
-        if count == 20 {
-            return 20;
-        }
-        bound *= 10;
-    }
-    count
+    n.checked_ilog10().unwrap_or(0) as usize + 1
 }
 
 // A number of so many digits, laid from the last one to the first.
@@ -25,11 +17,8 @@ pub(crate) fn lay_digits(n: u64, len: usize, out: &mut [u8])
     ensures { out.new ≡ laid_over (decimal n) out.old }
 {
     let mut rest = n;
-    let mut at = len;
-    while 10 <= rest {
-        at -= 1;
+    for at in (0..len).rev() {
         out[at] = b'0' + (rest % 10) as u8;
         rest /= 10;
     }
-    out[0] = b'0' + rest as u8;
 }

@@ -10,14 +10,12 @@ pub(crate) fn fits(rest: &[u64], room: usize) -> bool
     ensures { result ≡ leb (length (row_rest rest.now)) room }
 {
     let mut left = room;
-    let mut i = 0;
-    while i < rest.len() {
-        let width = numbers::digits(rest[i]);
+    for n in rest {
+        let width = numbers::digits(*n);
         if left <= width {
             return false;
         }
         left -= width + 1;
-        i += 1;
     }
     0 < left
 }
@@ -28,11 +26,8 @@ pub(crate) fn lay(rest: &[u64], out: &mut [u8]) -> usize
     ensures { (result ≡ length (row_rest rest.now)) × (out.new ≡ laid_over (row_rest rest.now) out.old) }
 {
     let mut at = 0;
-    let mut i = 0;
-    while i < rest.len() {
-        let n = rest[i];
-        at += lay_next(n, &mut out[at..]);
-        i += 1;
+    for n in rest {
+        at += lay_next(*n, &mut out[at..]);
     }
     out[at] = b'\n';
     at + 1

@@ -4,6 +4,4 @@ use Rattle.cobblehard_speeds.proofs.Figures.{got_figure}
 use Rattle.cobblehard_speeds.proofs.figure_at.Goals as goal
 
 pub returns : goal.returns
-returns c =
-    let a = c.args in
-    rw c.row_of-row.ensures (sym (got_figure a.fans a.i c.requires))
+returns c = rw c.row-row.ensures (sym (got_figure c.args.fans c.args.i c.requires))

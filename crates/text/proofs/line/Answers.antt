@@ -1,25 +1,20 @@
-use Rattle.std.proofs.Common.{rules, arith, List, ℕ, [], ◌∷◌, ◌++◌, ◌≡◌, ◌+◌, ◌*◌, ◌<◌, length, set}
+use Rattle.std.proofs.Common.{rules, arith, ap, List, ℕ, [], ◌∷◌, ◌++◌, ◌≡◌, ◌+◌, ◌*◌, ◌<◌, length, set}
 use borrow.Author.Tests.{ltb-true, ltb-false}
 use Rattle.laws.specs.Buffer.{laid_over}
 use Rattle.laws.proofs.Buffer.{lent_from, back_from}
 use Rattle.laws.proofs.Laid.{Laid, byte_on, piece_on}
 use Rattle.text.specs.Text.{decimal, hex_bytes, line_of}
-use Rattle.text.proofs.Lengths.{decimal_short, hex_length}
+use Rattle.text.proofs.Lengths.{hex_length}
 use Rattle.text.proofs.Lines.{line_counts, line_pieces}
 use Rattle.text.proofs.Wholes.{nothing, end_room, end_whole}
 use Rattle.text.proofs.line.Goals as goal
 use Rattle.text.proofs.line.Goals.{then-out-end-via-then-out-end, then-out-end-via-else-out-end+then-out-end-2}
 
-pub overflow_add-at : goal.overflow_add-at
-overflow_add-at c = omega (arith, decimal_short c.args.place)
-
-pub overflow_add-end : goal.overflow_add-end
-overflow_add-end c = omega (arith, decimal_short c.args.place, decimal_short c.args.number)
-
 pub returns-then-out-end : goal.returns-then-out-end
 returns-then-out-end c =
     let a = c.args in
     let l = line_counts a.place (search rules) a.number a.reply.now in
+    let n = ap (λ (n : ℕ). length (decimal n)) c.from-number.ensures in
     nothing (line_of a.place a.number a.reply.now) a.out.now
     (elim c.then-out-end.branch [
       | then-out-end-via-then-out-end w ↦ omega arith
@@ -47,17 +42,18 @@ bounds-out-last c =
     let a = c.args in
     let fits : c.digits-space.result + 1 + c.digits-width.result + 3 * length a.reply.now < length a.out.now = omega (arith, ltb-false) in
     end_room _ _ _ _
-    (laid a.place a.number a.reply.now a.out.now _ _ _ _ _ _ c.digits-space.ensures c.digits-width.ensures c.lay_bytes.ensures.0
+    (laid a.place c.from-number.result a.reply.now a.out.now _ _ _ _ _ _ c.digits-space.ensures.counts c.digits-width.ensures.counts c.lay_bytes.ensures.0
     c.lay_digits.ensures c.lay_digits-2.ensures c.lay_bytes.ensures.1 fits)
-    (ends a.place a.number a.reply.now a.out.now _ _ _ _ _ _ c.digits-space.ensures c.digits-width.ensures c.lay_bytes.ensures.0
+    (ends a.place c.from-number.result a.reply.now a.out.now _ _ _ _ _ _ c.digits-space.ensures.counts c.digits-width.ensures.counts c.lay_bytes.ensures.0
     c.lay_digits.ensures c.lay_digits-2.ensures c.lay_bytes.ensures.1 fits)
 
 pub returns : goal.returns
 returns c =
     let a = c.args in
     let fits : c.digits-space.result + 1 + c.digits-width.result + 3 * length a.reply.now < length a.out.now = omega (arith, ltb-false) in
-    end_whole _ _ _ _
-    (laid a.place a.number a.reply.now a.out.now _ _ _ _ _ _ c.digits-space.ensures c.digits-width.ensures c.lay_bytes.ensures.0
+    rw (← c.from-number.ensures)
+    (end_whole _ _ _ _
+    (laid a.place c.from-number.result a.reply.now a.out.now _ _ _ _ _ _ c.digits-space.ensures.counts c.digits-width.ensures.counts c.lay_bytes.ensures.0
     c.lay_digits.ensures c.lay_digits-2.ensures c.lay_bytes.ensures.1 fits)
-    (ends a.place a.number a.reply.now a.out.now _ _ _ _ _ _ c.digits-space.ensures c.digits-width.ensures c.lay_bytes.ensures.0
-    c.lay_digits.ensures c.lay_digits-2.ensures c.lay_bytes.ensures.1 fits) _ (line_pieces _ (search rules) _ _)
+    (ends a.place c.from-number.result a.reply.now a.out.now _ _ _ _ _ _ c.digits-space.ensures.counts c.digits-width.ensures.counts c.lay_bytes.ensures.0
+    c.lay_digits.ensures c.lay_digits-2.ensures c.lay_bytes.ensures.1 fits) _ (line_pieces _ (search rules) _ _))

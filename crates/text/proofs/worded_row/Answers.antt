@@ -2,12 +2,8 @@ use Rattle.std.proofs.Common.{◌≡◌, ◌+◌, ◌++◌, List, ℕ, sym, refl
 use borrow.Author.Tests.{leb-true}
 use Rattle.laws.proofs.Laid.{Laid, piece_on}
 use Rattle.text.specs.Text.{decimal, row_rest}
-use Rattle.text.proofs.Lengths.{decimal_short}
 use Rattle.text.proofs.Wholes.{whole}
 use Rattle.text.proofs.worded_row.Goals as goal
-
-pub overflow_add-end : goal.overflow_add-end
-overflow_add-end c = omega (arith, decimal_short c.args.first)
 
 -- it fits: the word is copied to the front, the first number laid behind it, and the rest behind them
 pub returns : goal.returns
@@ -18,7 +14,7 @@ returns c =
     let copied = ap (λ (l : List ℕ). l ++ drop (length word) a.out.now) c.copy_from_slice.ensures.after in
     let worded : Laid a.out.now (c.copy_from_slice.new.self ++ drop (length word) a.out.now) (length word) word = record { counts = refl; holds = copied } in
     let rowed =
-    piece_on _ _ _ _ (piece_on _ _ _ _ worded _ _ _ c.digits-width.ensures c.lay_digits.ensures) _ _ _ c.lay.ensures.0 c.lay.ensures.1 in
+    piece_on _ _ _ _ (piece_on _ _ _ _ worded _ _ _ c.digits-width.ensures.counts c.lay_digits.ensures) _ _ _ c.lay.ensures.0 c.lay.ensures.1 in
     let fits = leb-true _ _ (sym c.if-not-fits.ensures) in
     let counts : length text ≡ length word + length (decimal a.first) + length (row_rest a.rest.now) = simp length-append in
     whole text a.out.now _ _ (omega (arith, fits, counts)) rowed

@@ -2,6 +2,5 @@
 use Rattle.emc2305.proofs.Ranged.{clocked_within}
 use Rattle.emc2305.proofs.steps.reply_length.Goals as goal
 
-pub bounds-log-place : goal.bounds-log-place
-bounds-log-place c =
-    clocked_within _ _ c.requires _ _ _ _ c.in-Transfer.is c.if-reads.true
+pub bounds-event-place : goal.bounds-event-place
+bounds-event-place c = clocked_within _ _ c.args.event.in_range _ _ _ _ c.in-Transfer.is c.if-reads.true

@@ -20,7 +20,7 @@ use Rattle.emc2305.proofs.transfers.read_out.Goals.{in-OfFan, in-OfChip+then-byt
 
 pub loop-i-init : goal.loop-i-init
 unfolding repeated reply_of
-loop-i-init c = (omega arith, refl, refl, refl, λ k o. refl)
+loop-i-init c = (refl, refl, refl, λ k o. refl)
 
 -- the fan and the offset at the pointer
 pub offset_bounds-fans-at : goal.offset_bounds-fans-at
@@ -39,7 +39,7 @@ read c =
     let a = c.args in
     let next = c.match-register_of.chip in
     let fans = a.chip.fans in
-    let same = l.invariant.4 in
+    let same = l.invariant.3 in
     let found : register_at l.chip l.pointer ≡ c.register_of.result =
     sym (c.register_of.ensures ∙ ap (λ (k : ℕ). register_of k l.pointer) c.fan_count.ensures) in
     elim c.match-register_of.branch [
@@ -72,10 +72,9 @@ loop-i-preserved c =
     let a = c.args in
     let m = c.match-register_of in
     let r = read c in (
-      omega arith,
-      ap (λ (p : ℕ). with_pointer p m.chip) c.pointer_past-pointer.ensures ∙ once_more _ _ _ _ _ l.invariant.1 r.2.1,
-      r.1 ∙ reply_next a.n l.i a.chip _ a.reply.now _ _ l.invariant.1 l.invariant.2 (let h = l.invariant.3 in search rules) r.2.0,
-      ap length r.1 ∙ length-set l.reply l.i r.0 ∙ l.invariant.3,
+      ap (λ (p : ℕ). with_pointer p m.chip) c.pointer_past-pointer.ensures ∙ once_more _ _ _ _ _ l.invariant.0 r.2.1,
+      r.1 ∙ reply_next a.n l.i a.chip _ a.reply.now _ _ l.invariant.0 l.invariant.1 (let h = l.invariant.2 in search rules) r.2.0,
+      ap length r.1 ∙ length-set l.reply l.i r.0 ∙ l.invariant.2,
       r.2.2,
     )
 
@@ -83,6 +82,6 @@ pub returns : goal.returns
 returns c =
     let a = c.args in
     let l = c.loop-i in (
-      l.invariant.1 ∙ ap (λ (k : ℕ). repeated k (byte_read a.n) a.chip) (omega arith),
-      l.invariant.2 ∙ ap (λ (k : ℕ). laid_over (reply_of a.n a.chip k) a.reply.now) (omega arith),
+      l.invariant.0 ∙ ap (λ (k : ℕ). repeated k (byte_read a.n) a.chip) (omega arith),
+      l.invariant.1 ∙ ap (λ (k : ℕ). laid_over (reply_of a.n a.chip k) a.reply.now) (omega arith),
     )

@@ -1,6 +1,5 @@
 -- `emc2305::transfers::read_out` meets its contract.
 use mathlib.Core.Path.{◌≡◌}
-use Prim.Native.Nat.{◌-◌, ◌≤◌}
 use lib.ListN.{length}
 use Rattle.laws.specs.Repeat.{repeated}
 use Rattle.laws.specs.Buffer.{laid_over}
@@ -11,8 +10,5 @@ use Rattle.emc2305.proofs.transfers.read_out.Given as goal
 
 abbrev pub invariant-loop-i : goal.invariant-loop-i
 invariant-loop-i l =
-    (l.i ≤ l.n) × (with_pointer l.pointer l.chip ≡ repeated l.i (byte_read l.n) l.initial.chip) × (l.reply ≡ laid_over (reply_of l.n l.initial.chip l.i) l.initial.reply)
+    (with_pointer l.pointer l.chip ≡ repeated l.i (byte_read l.n) l.initial.chip) × (l.reply ≡ laid_over (reply_of l.n l.initial.chip l.i) l.initial.reply)
     × (length l.reply ≡ length l.initial.reply) × SameShown l.chip.fans l.fans
-
-abbrev pub decreases-loop-i : goal.decreases-loop-i
-decreases-loop-i l = l.n - l.i

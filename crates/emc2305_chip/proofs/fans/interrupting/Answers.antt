@@ -1,19 +1,18 @@
-use Rattle.std.proofs.Common.{ℕ, arith, ap, ◌∙◌}
-use Rattle.emc2305_chip.specs.Fans.{interrupting}
+use Rattle.std.proofs.Common.{ℕ, refl, ap, ◌∙◌}
+use Rattle.emc2305_chip.specs.Fans.{fan_at, interrupts, interrupting}
 use Rattle.emc2305_chip.proofs.Bits.{none_yet, all_places, interrupting_next}
 use Rattle.emc2305_chip.proofs.fans.interrupting.Goals as goal
 
 pub loop-i-init : goal.loop-i-init
 unfolding interrupting
-loop-i-init c = record { places = omega arith; so_far = rw (none_yet c.args.n) }
+loop-i-init c = rw (none_yet c.fans-n.result)
 
 pub loop-i-preserved : goal.loop-i-preserved
-loop-i-preserved c = record {
-  places = omega arith;
-  so_far = interrupting_next _ _ _ _ _ _ c.loop-i.invariant.so_far c.interrupts.ensures;
-}
+loop-i-preserved c =
+    let l = c.loop-i in
+    interrupting_next c.args.enable c.args.fans c.fans-n.result l.i l.on (interrupts c.args.enable l.i (fan_at c.args.fans l.i)) l.invariant refl
 
 pub returns : goal.returns
 returns c =
-    c.loop-i.invariant.so_far
-    ∙ ap (λ (k : ℕ). interrupting c.args.enable c.args.fans k) (all_places _ _ c.loop-i.invariant.places c.loop-i-test.false c.requires)
+    c.loop-i.invariant
+    ∙ ap (λ (k : ℕ). interrupting c.args.enable c.args.fans k) (all_places c.args.part c.fans-n.result c.loop-i.i c.fans-n.ensures c.loop-i-test.false)

@@ -1,4 +1,4 @@
-use Rattle.std.proofs.Common.{arith, sym, refl, ◌∙◌}
+use Rattle.std.proofs.Common.{arith, sym, ◌∙◌}
 use mathlib.Core.Path.{ap₂}
 use borrow.Author.Tests.{ne_eqb}
 use Rattle.emc2305_chip.specs.Map.{of_fan}
@@ -8,7 +8,7 @@ use Rattle.emc2305_chip.proofs.map.register_of.Goals as goal
 pub returns-in-3-to-7 : goal.returns-in-3-to-7
 returns-in-3-to-7 c =
     let a = c.args in
-    c.of_fan.ensures ∙ sym (maps_fan a.fans a.address (omega arith) (omega arith) ∙ ap₂ (of_fan a.fans) (omega arith) refl)
+    c.of_fan.ensures ∙ sym (maps_fan a.fans a.address (omega arith) (omega arith) ∙ ap₂ (of_fan a.fans) (omega arith) (omega arith))
 
 -- below 20h
 pub returns-in_default : goal.returns-in_default

@@ -1,59 +1,38 @@
-use Rattle.std.proofs.Common.{◌≡◌, ℕ, ◌+◌, Bool, true, false, ◌||◌, List, get_or, drop, arith, refl, sym, ap, ◌∙◌}
+use Rattle.std.proofs.Common.{◌≡◌, ℕ, ◌+◌, Bool, true, false, ◌||◌, List, get_or, take, arith, refl, sym, ap, ◌∙◌}
 use mathlib.Core.Bool.{or-false}
 use Rattle.std.proofs.Math.ListN.{drop_of_length-le}
 use Rattle.emc2305_fan.specs.Registers.{closed_loop}
 use Rattle.emc2305_fan.specs.Stored.{put, wish_taken, clock_set, settled, takes, byte_taken, bytes_taken, bytes_program}
 use Rattle.emc2305_fan.proofs.Steps.{settles_spin, settles_out, held_ends, held_on, sets_start, sets_ramp, sets_goal}
-use Rattle.emc2305_fan.proofs.Taken.{takes_wish, leaves_wish, clears, leaves_clock, stored, refused, past_last, taken_next, programs_next}
+use Rattle.emc2305_fan.proofs.Taken.{takes_wish, leaves_wish, clears, leaves_clock, stored, refused, own_alone, taken_next, programs_next}
 use Rattle.emc2305_fan.proofs.Fan.write.Goals as goal
 use Rattle.emc2305_fan.proofs.Fan.write.Goals.{then-turned_on, else-turned_on, then-clears_clock, else-clears_clock}
-
-pub loop-i-init : goal.loop-i-init
-loop-i-init c =
-    let a = c.args in
-    let first : a.first + 0 ≡ a.first = omega arith in
-    record {
-      within = omega arith;
-      taken = ap (λ (o : ℕ). bytes_taken a.locked o a.bytes.now a.self) first;
-      program = ap (λ (o : ℕ). bytes_program a.locked o a.bytes.now a.self) first;
-    }
-
-pub returns-then-offset-gt-LAST-clause-fan_value :
-    goal.returns-then-offset-gt-LAST-clause-fan_value
-returns-then-offset-gt-LAST-clause-fan_value c =
-    let past = past_last c.args.locked (c.args.first + c.loop-i.i) (drop c.loop-i.i c.args.bytes.now) c.loop-i.fan (omega arith) in
-    c.left.ensures.0 ∙ sym past.0 ∙ c.loop-i.invariant.taken
-
-pub returns-then-offset-gt-LAST-clause-programmed_value :
-    goal.returns-then-offset-gt-LAST-clause-programmed_value
-returns-then-offset-gt-LAST-clause-programmed_value c =
-    let past = past_last c.args.locked (c.args.first + c.loop-i.i) (drop c.loop-i.i c.args.bytes.now) c.loop-i.fan (omega arith) in
-    c.left.ensures.1 ∙ sym (or-false c.loop-i.programmed)
-    ∙ ap (λ (t : Bool). c.loop-i.programmed || t) (sym past.1)
-    ∙ c.loop-i.invariant.program
 
 -- a byte that is not taken changes nothing
 pub loop-i-preserved-then-not-takes : goal.loop-i-preserved-then-not-takes
 loop-i-preserved-then-not-takes c =
     let l = c.loop-i in
     let a = c.args in
+    let own = take c.min.result a.bytes.now in
     let no : takes a.locked l.fan (a.first + l.i) ≡ false = sym c.takes.ensures ∙ c.if-not-takes.true in
-    let still = refused a.locked (a.first + l.i) (get_or a.bytes.now l.i 0) l.fan no in
+    let still = refused a.locked (a.first + l.i) (get_or own l.i 0) l.fan no in
     record {
-      within = omega arith;
-      taken = taken_next a.locked a.first l.i a.bytes.now l.fan l.fan c.loop-i-test.true still ∙ l.invariant.taken;
+      taken = taken_next a.locked a.first l.i own l.fan l.fan c.loop-i-test.true still ∙ l.invariant.taken;
       program =
-          programs_next a.locked a.first l.i a.bytes.now l.fan l.fan c.loop-i-test.true still l.programmed l.programmed
+          programs_next a.locked a.first l.i own l.fan l.fan c.loop-i-test.true still l.programmed l.programmed
           (rw no (sym (or-false l.programmed))) ∙ l.invariant.program;
     }
 
--- the fan after the byte, with its wish
+-- the byte at hand
+abbrev byte_at : goal.Joined-fan → ℕ
+byte_at c = get_or (take c.min.result c.args.bytes.now) c.loop-i.i 0
+
+-- the fan after it, with its wish
 at_wish : (c : goal.Joined-fan)
-    → c.if-turned_on.fan
-    ≡ wish_taken (closed_loop c.loop-i.fan) (put (c.args.first + c.loop-i.i) (get_or c.args.bytes.now c.loop-i.i 0) c.loop-i.fan)
+    → c.if-turned_on.fan ≡ wish_taken (closed_loop c.loop-i.fan) (put (c.args.first + c.loop-i.i) (byte_at c) c.loop-i.fan)
 at_wish c =
     let was = c.closed_loop-was_closed.result in
-    let f = put (c.args.first + c.loop-i.i) (get_or c.args.bytes.now c.loop-i.i 0) c.loop-i.fan in
+    let f = put (c.args.first + c.loop-i.i) (byte_at c) c.loop-i.fan in
     let e : c.if-turned_on.fan ≡ wish_taken was f =
     elim c.if-turned_on.branch [
       | then-turned_on w ↦ w.fan-is ∙ takes_wish was f (sym c.turned_on.ensures ∙ w.if-turned_on.true)
@@ -64,8 +43,7 @@ at_wish c =
 -- and with its clock
 at_clock : (c : goal.Joined-fan)
     → c.if-clears_clock.fan
-    ≡ clock_set (c.args.first + c.loop-i.i)
-    (wish_taken (closed_loop c.loop-i.fan) (put (c.args.first + c.loop-i.i) (get_or c.args.bytes.now c.loop-i.i 0) c.loop-i.fan))
+    ≡ clock_set (c.args.first + c.loop-i.i) (wish_taken (closed_loop c.loop-i.fan) (put (c.args.first + c.loop-i.i) (byte_at c) c.loop-i.fan))
 at_clock c =
     let o = c.args.first + c.loop-i.i in
     let f = c.if-turned_on.fan in
@@ -85,31 +63,34 @@ pub loop-i-preserved : goal.loop-i-preserved
 loop-i-preserved c =
     let l = c.loop-i in
     let a = c.args in
-    let byte = get_or a.bytes.now l.i 0 in
+    let own = take c.min.result a.bytes.now in
+    let byte = byte_at c in
     let yes : takes a.locked l.fan (a.first + l.i) ≡ true = sym c.takes.ensures ∙ c.if-not-takes.false in
     let wrote : c.if-fan.fan ≡ byte_taken a.locked (a.first + l.i) byte l.fan =
     at_rest c ∙ ap settled (at_clock c) ∙ stored a.locked (a.first + l.i) byte l.fan yes in
     record {
-      within = omega arith;
-      taken = taken_next a.locked a.first l.i a.bytes.now l.fan c.if-fan.fan c.loop-i-test.true wrote ∙ l.invariant.taken;
+      taken = taken_next a.locked a.first l.i own l.fan c.if-fan.fan c.loop-i-test.true wrote ∙ l.invariant.taken;
       program =
-          programs_next a.locked a.first l.i a.bytes.now l.fan c.if-fan.fan c.loop-i-test.true wrote l.programmed
+          programs_next a.locked a.first l.i own l.fan c.if-fan.fan c.loop-i-test.true wrote l.programmed
           (l.programmed || c.programs-programmed.result) (rw (c.programs-programmed.ensures, yes) refl) ∙ l.invariant.program;
     }
 
--- at the end no byte is left
+-- at the end none of its bytes is left, and the others do nothing
 pub returns-clause-fan_value : goal.returns-clause-fan_value
 unfolding bytes_taken
 returns-clause-fan_value c =
-    let over = drop_of_length-le c.args.bytes.now {i = c.loop-i.i} (omega arith) in
-    c.left-2.ensures.0
-    ∙ ap (λ (b : List ℕ). bytes_taken c.args.locked (c.args.first + c.loop-i.i) b c.loop-i.fan) (sym over)
-    ∙ c.loop-i.invariant.taken
+    let a = c.args in
+    let l = c.loop-i in
+    let over = drop_of_length-le (take c.min.result a.bytes.now) {i = l.i} c.loop-i-test.false in
+    ap (λ (b : List ℕ). bytes_taken a.locked (a.first + l.i) b l.fan) (sym over)
+    ∙ l.invariant.taken ∙ (own_alone a.locked a.first a.bytes.now a.self c.min.result (omega arith)).0
 
 pub returns-clause-programmed_value : goal.returns-clause-programmed_value
 unfolding bytes_program
 returns-clause-programmed_value c =
-    let over = drop_of_length-le c.args.bytes.now {i = c.loop-i.i} (omega arith) in
-    c.left-2.ensures.1 ∙ sym (or-false c.loop-i.programmed)
-    ∙ ap (λ (b : List ℕ). c.loop-i.programmed || bytes_program c.args.locked (c.args.first + c.loop-i.i) b c.loop-i.fan) (sym over)
-    ∙ c.loop-i.invariant.program
+    let a = c.args in
+    let l = c.loop-i in
+    let over = drop_of_length-le (take c.min.result a.bytes.now) {i = l.i} c.loop-i-test.false in
+    sym (or-false l.programmed)
+    ∙ ap (λ (b : List ℕ). l.programmed || bytes_program a.locked (a.first + l.i) b l.fan) (sym over)
+    ∙ l.invariant.program ∙ (own_alone a.locked a.first a.bytes.now a.self c.min.result (omega arith)).1

@@ -1,11 +1,8 @@
 -- So many bytes are laid as there are hex digits and spaces of the bytes that were read.
-use Rattle.std.proofs.Common.{length, ◌-◌, ◌≡◌, ◌*◌, ◌≤◌, take}
+use Rattle.std.proofs.Common.{◌*◌, take}
 use Rattle.laws.proofs.Laid.{Laid}
 use Rattle.text.specs.Text.{hex_bytes}
 use Rattle.text.proofs.hex.lay_bytes.Given as goal
 
 abbrev pub invariant-loop-i : goal.invariant-loop-i
-invariant-loop-i l = (l.i ≤ length l.bytes) × (l.at ≡ 3 * l.i) × Laid l.fn.out l.out l.at (hex_bytes (take l.i l.bytes))
-
-abbrev pub decreases-loop-i : goal.decreases-loop-i
-decreases-loop-i l = length l.bytes - l.i
+invariant-loop-i l = Laid l.fn.out l.out (3 * l.i) (hex_bytes (take l.i l.bytes))

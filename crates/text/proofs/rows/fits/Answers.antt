@@ -8,14 +8,15 @@ use Rattle.text.proofs.rows.fits.Goals as goal
 pub returns-then-left-width : goal.returns-then-left-width
 returns-then-left-width c =
     let a = c.args in
-    let e = rest_counts a.rest.now c.loop-i.i c.loop-i-test.true in
-    sym (lt-leb (length (row_rest a.rest.now)) a.room (omega (arith, rest_some (drop (c.loop-i.i + 1) a.rest.now))))
+    let i = c.loop-n.n-index in
+    let e = rest_counts a.rest.now i (omega arith) in
+    sym (lt-leb (length (row_rest a.rest.now)) a.room (omega (arith, rest_some (drop (i + 1) a.rest.now))))
 
-pub loop-i-preserved : goal.loop-i-preserved
-loop-i-preserved c = (omega arith, omega (arith, rest_counts c.args.rest.now c.loop-i.i c.loop-i-test.true))
+pub loop-n-preserved : goal.loop-n-preserved
+loop-n-preserved c = omega (arith, rest_counts c.args.rest.now c.loop-n.n-index (omega arith))
 
 pub returns : goal.returns
 returns c =
     let a = c.args in
-    let e = ap length (rest_ends a.rest.now c.loop-i.i c.loop-i-test.false) in
-    leb_same 1 c.loop-i.left (length (row_rest a.rest.now)) a.room (λ h. omega arith) (λ h. omega arith)
+    let e = ap length (rest_ends a.rest.now c.loop-n.n-index (omega arith)) in
+    leb_same 1 c.loop-n.left (length (row_rest a.rest.now)) a.room (λ h. omega arith) (λ h. omega arith)

@@ -3,15 +3,15 @@ use Rattle.text.proofs.Rowed.{here, next_room, one_rowed, all_rowed}
 use Rattle.text.proofs.rows.lay.Goals as goal
 
 pub lay_next-at-requires : goal.lay_next-at-requires
-lay_next-at-requires c = next_room _ _ _ _ _ c.loop-i.invariant.1 c.requires c.loop-i-test.true
+lay_next-at-requires c = next_room _ _ _ _ _ c.loop-n.invariant c.requires (omega arith)
 
-pub loop-i-preserved : goal.loop-i-preserved
-loop-i-preserved c =
+pub loop-n-preserved : goal.loop-n-preserved
+loop-n-preserved c =
     let laid = c.lay_next-at.ensures in
-    (omega arith, one_rowed _ _ _ _ _ c.loop-i.invariant.1 c.requires c.loop-i-test.true _ _ laid.0 laid.1)
+    one_rowed _ _ _ _ _ c.loop-n.invariant c.requires (omega arith) _ _ laid.0 laid.1
 
 pub bounds-out-at : goal.bounds-out-at
-bounds-out-at c = here _ _ _ _ _ c.loop-i.invariant.1 c.requires
+bounds-out-at c = here _ _ _ _ _ c.loop-n.invariant c.requires
 
 pub returns : goal.returns
-returns c = all_rowed _ _ _ _ _ c.loop-i.invariant.1 c.requires c.loop-i-test.false
+returns c = all_rowed _ _ _ _ _ c.loop-n.invariant c.requires (omega arith)

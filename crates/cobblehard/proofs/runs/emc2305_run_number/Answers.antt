@@ -1,7 +1,0 @@
--- `cobblehard::runs::emc2305_run_number` meets its contract.
-use mathlib.Core.Path.{ap}
-use Rattle.walks.specs.declared.Outcome.{Outcome}
-use Rattle.cobblehard.proofs.runs.emc2305_run_number.Goals as goal
-
-pub returns : goal.returns
-returns c = (ap (λ (o : Outcome). o.number) c.run.ensures.0, c.run.ensures.1)

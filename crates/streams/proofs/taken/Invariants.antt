@@ -1,7 +1,0 @@
-use Rattle.std.proofs.Common.{◌≤◌, length, take}
-use Rattle.std.specs.Io.KnownBytes.{Appends}
-use Rattle.streams.proofs.taken.Given as goal
-
-abbrev pub invariant-loop : goal.invariant-loop
-invariant-loop g l =
-    record { within : l.done ≤ length l.text; bytes : Appends (g.W.Write.contents l.initial.output) (g.W.Write.contents l.output) (take l.done l.text) }

@@ -1,0 +1,28 @@
+// Bytes and words as the programs write them.
+ghost use Rattle.std.specs.Prelude.{◌≡◌, true, false, length};
+
+use std::fmt;
+
+// Two hexadecimal digits a byte, or '-' where there is none.
+#[derive(Clone, Copy)]
+pub struct Hex<'a>(pub &'a [u8]);
+
+impl fmt::Display for Hex<'_> {
+    fn fmt<W: fmt::Write>(&self, f: &mut fmt::Formatter<W>) -> fmt::Result {
+        if self.0.is_empty() {
+            return f.write_str("-");
+        }
+        for byte in self.0 {
+            write!(f, "{byte:02x}")?;
+        }
+        Ok(())
+    }
+}
+
+// A word where something holds, else none.
+pub fn word_if(holds: bool, word: &str) -> &str
+    ensures held { holds ≡ true → result.now ≡ word.now }
+    ensures not_held { holds ≡ false → length result.now ≡ 0 }
+{
+    if holds { word } else { "" }
+}
