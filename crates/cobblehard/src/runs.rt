@@ -34,7 +34,7 @@ pub extern "C" fn emc2305_run(
     number(outcome)
 }
 
-// The same run, of which each function from here on answers one number.
+// The same run, of which each function from here on answers one number: C knows them by these names.
 #[unsafe(no_mangle)]
 pub extern "C" fn emc2305_run_number(log: &[u8], replies: &mut [u8]) -> u8
     ensures number { result ≡ (run_of emc2305 log.now (length replies.old)).number }

@@ -17,29 +17,35 @@ pub fn step(chip: Chip, log: &[u8], event: Event, reply: &mut [u8]) -> Result<Ta
     ensures value { answer_of chip result ≡ stepped chip log.now event (length reply.old) }
     ensures reply_after { reply.new ≡ reply_after chip log.now event reply.old }
 {
-    let event = InRange::new(event, log)?;
+    let checked = InRange::new(event, log)?;
     let part = chip.part;
-    check(part, chip.powered, chip.address, event, reply.len())?;
-    let laid = reply_length(event);
-    let state = taken(chip, event, laid, reply);
+    check(part, chip.powered, chip.address, checked, reply.len())?;
+    let laid = reply_length(checked);
+    let state = taken(chip, checked, laid, reply);
     Ok(Taken { laid, state })
 }
 
 // What is asked of an event in range: 6, 21, 7, 8, in this order.
 #[tactic(auto, unfolding(crate::specs::Step::step_number))]
-fn check(part: Part, powered: bool, address: u8, event: InRange, room: usize) -> Result<(), Refusal>
-    ensures { number_given result ≡ step_number part powered address event.entry.log.now event.entry.event room }
+fn check(
+    part: Part,
+    powered: bool,
+    address: u8,
+    checked: InRange,
+    room: usize,
+) -> Result<(), Refusal>
+    ensures { number_given result ≡ step_number part powered address checked.entry.log.now checked.entry.event room }
 {
-    if before_power(powered, event.event) {
+    if before_power(powered, checked.event) {
         return Err(Refusal::NoPower);
     }
-    if absent(part, event.event) {
+    if absent(part, checked.event) {
         return Err(Refusal::AbsentFan);
     }
-    if elsewhere(address, event.event) {
+    if elsewhere(address, checked.event) {
         return Err(Refusal::Elsewhere);
     }
-    if room < reply_length(event) {
+    if room < reply_length(checked) {
         return Err(Refusal::NoRoom);
     }
     Ok(())
@@ -73,24 +79,24 @@ fn elsewhere(address: u8, event: Event) -> bool
 }
 
 // How many bytes the reply has: of a read, as many as the host clocks.
-fn reply_length(event: InRange) -> usize
-    ensures { result ≡ reply_length event.entry.log.now event.entry.event }
+fn reply_length(checked: InRange) -> usize
+    ensures { result ≡ reply_length checked.entry.log.now checked.entry.event }
 {
-    match event.event {
-        Event::Transfer { reads, place, .. } if reads => usize::from(event.log[place]),
+    match checked.event {
+        Event::Transfer { reads, place, .. } if reads => usize::from(checked.log[place]),
         _ => 0,
     }
 }
 
 // The chip after an event that is taken, with its reply of n bytes laid.
 #[tactic(auto, unfolding(crate::specs::Step::taken, crate::specs::Step::reply_to, crate::specs::Transfers::reply_of))]
-fn taken(chip: Chip, event: InRange, n: usize, reply: &mut [u8]) -> Chip
-    requires n_value { n ≡ reply_length event.log.now event.event }
+fn taken(chip: Chip, checked: InRange, n: usize, reply: &mut [u8]) -> Chip
+    requires n_value { n ≡ reply_length checked.log.now checked.event }
     requires n_in_bounds { n ≤ length reply.old }
-    ensures value { result ≡ taken event.entry.log.now event.entry.event chip }
-    ensures reply_after { reply.new ≡ laid_over (reply_to event.entry.log.now event.entry.event chip) reply.old }
+    ensures value { result ≡ taken checked.entry.log.now checked.entry.event chip }
+    ensures reply_after { reply.new ≡ laid_over (reply_to checked.entry.log.now checked.entry.event chip) reply.old }
 {
-    match event.event {
+    match checked.event {
         Event::PowerOn(address) => Chip::power_on(Part::Emc2305, address),
         Event::Ticks(count) => chip.ticks(count),
         Event::Sample { fan, count } => chip.sample(usize::from(fan - 1), count),
@@ -98,7 +104,7 @@ fn taken(chip: Chip, event: InRange, n: usize, reply: &mut [u8]) -> Chip
         Event::Transfer { reads: true, .. } => transfers::read_out(chip.fed(), n, reply),
         Event::Transfer { place, len, .. } => transfers::sent(
             chip.fed(),
-            &event.log[place..place + len],
+            &checked.log[place..place + len],
         ),
         Event::PowerOnPart { address, fans } => Chip::power_on(Part::with_fans(fans), address),
     }

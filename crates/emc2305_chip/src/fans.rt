@@ -54,6 +54,7 @@ pub(crate) fn bits_of(fans: [Fan; 5], part: Part, bit: Bit) -> u8
     byte
 }
 
+// A loop of its own and not one with a closure: so that the test for each place stays as it was measured.
 // Whether a 25h or 26h bit of one of the part's fans stands, with the fan's bit 1 in the byte of 29h.
 pub(crate) fn interrupting(fans: [Fan; 5], part: Part, enable: u8) -> bool
     ensures { result ≡ interrupting enable fans (fans_of part) }

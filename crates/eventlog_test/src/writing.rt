@@ -9,7 +9,7 @@ const FILL: u8 = 0xEE;
 
 const SPACE: usize = 40;
 
-// Stands for the kind of a transfer that reads; none of the kinds.
+// Stands for the kind of a transfer that reads; none of the kinds, and a byte of the cases.
 const READS: u8 = 13;
 
 // How many bytes of a case stand before the log: the room, then the event's six.

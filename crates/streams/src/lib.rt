@@ -1,4 +1,4 @@
-// What programs share that read a log as it comes: what a window holds of it, reading on, writing a text whole, and what the arguments ask for.
+// What programs share that read their input as it comes: what a window holds of it, reading on, writing a text whole, and what the arguments ask for.
 // What the system gives and takes comes through std's traits, which a clause knows little of: so only programs use it.
 #![tactic(auto)]
 

@@ -12,14 +12,14 @@ pub struct Taken<S> {
     pub state: S,
 }
 
-// A device, by a type of its own: of how it is kept only the type of the states is said.
+// A device has a type of its own, which no value need be of; what it keeps is a `State`.
 pub trait Device {
     type State: Copy;
 
     // The state before any power-on; of each step its number, the state after it and its reply.
     ghost steps: { Steps Self.State };
 
-    // What is asked of it.
+    // The laws that it keeps.
     ghost lawful: { Lawful (device_of steps) };
 
     // The device before any power-on.

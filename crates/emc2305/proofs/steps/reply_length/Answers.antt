@@ -2,5 +2,5 @@
 use Rattle.emc2305.proofs.Ranged.{clocked_within}
 use Rattle.emc2305.proofs.steps.reply_length.Goals as goal
 
-pub bounds-event-place : goal.bounds-event-place
-bounds-event-place c = clocked_within _ _ c.args.event.in_range _ _ _ _ c.in-Transfer.is c.if-reads.true
+pub bounds-checked-place : goal.bounds-checked-place
+bounds-checked-place c = clocked_within _ _ c.args.checked.in_range _ _ _ _ c.in-Transfer.is c.if-reads.true
