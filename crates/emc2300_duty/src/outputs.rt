@@ -47,6 +47,7 @@ impl Registers {
     }
 }
 
+// By mode, minimum and zones, as the definitions take them, one by one.
 #[tactic(auto, unfolding(crate::specs::Duty::automatic))]
 fn automatic(mode: u8, minimum: u8, zones: [Zone; 3]) -> Asked
     ensures { result ≡ automatic mode minimum zones }

@@ -9,7 +9,7 @@ const RANGES: [u16; 16] = [
     200, 250, 333, 400, 500, 667, 800, 1000, 1333, 1600, 2000, 2667, 3200, 4000, 5333, 8000,
 ];
 
-// -128 degrees: as a temperature a fault, as an absolute limit none.
+// -128 degrees: as a temperature a fault, as an absolute limit none. A byte and no Option, as the definitions have it.
 const LEAST: u8 = 0x80;
 
 impl Zone {

@@ -56,7 +56,7 @@ impl Output {
         self
     }
 
-    // Where the ramp stands.
+    // Where the ramp stands. This, `with_ramp` and `pace` are of each device's own struct: a trait that they shared would be longer.
     pub(crate) fn ramp(self) -> Ramp
         ensures { result ≡ ramp_of self }
     {

@@ -25,7 +25,7 @@ pub fn step(chip: Chip, log: &[u8], event: Event, reply: &mut [u8]) -> Result<Ta
     Ok(Taken { laid, state })
 }
 
-// What is asked of an event in range: 6, 21, 7, 8, in this order.
+// What is asked of an event in range: 6, 21, 7, 8, in this order. Of the chip it takes what it asks for, which is faster (DECISIONS 146).
 #[tactic(auto, unfolding(crate::specs::Step::step_number))]
 fn check(
     part: Part,

@@ -1,5 +1,6 @@
 // The fans side by side: what happens to those that the part has, which are the first ones, and their status bits. What is asked of the fans goes over
-// all five places with a test for each, which takes less time than a loop over the part's (docs/PERFORMANCE.md).
+// all five places with a test for each, which takes less time than a loop over the part's (docs/PERFORMANCE.md). Fans and part are handed on as the definitions
+// take them, by themselves.
 ghost use Rattle.std.specs.Prelude.{◌≡◌};
 ghost use Rattle.laws.specs.Lists.{first_moved};
 ghost use Rattle.emc2305_fan.specs.Registers.{power_on};

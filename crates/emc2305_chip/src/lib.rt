@@ -23,7 +23,7 @@ pub use registers::{is_cleared, is_writable};
 #[derive(Clone, Copy, Debug, PartialEq, Eq)]
 pub struct Chip {
     pub powered: bool,
-    // The bus address.
+    // The bus address, which means nothing before power-on: the definitions speak of both.
     pub address: u8,
     pub fans: [Fan; 5],
     // 20h.

@@ -87,7 +87,7 @@ impl Fan {
         }
     }
 
-    // Where the ramp stands.
+    // Where the ramp stands. This, `pace` and `with_ramp` are of each device's own struct: a trait that they shared would be longer.
     fn ramp(self) -> Ramp
         ensures { result ≡ ramp_of self }
     {

@@ -45,7 +45,8 @@ const TABLE_RESET: Reset = Reset {
 const TABLE_IDENTITY: [u8; 4] = [0x00, 0x34, 0x5D, 0x80];
 
 // Document 01 wants these three as constants of each part's own type. A trait over them would add its lines and take none away: no code is written for all parts
-// by their types, and each match below would keep its four arms.
+// by their types, and each match below would keep its four arms. Tried too as one constant of a trait, for one match:
+// the proof did not close.
 
 // The part with one fan.
 #[derive(Clone, Copy)]

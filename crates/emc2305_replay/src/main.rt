@@ -34,7 +34,7 @@ fn run<'a>(rt: &HostRuntime, name: &'a mut [u8]) -> Result<(), Failure<'a>> {
     }
 }
 
-// Says how the program is called and what it does, on an output that messages call so.
+// Says how the program is called and what it does, on an output that messages call so. Each program has its own text.
 fn usage<'a, W: Write>(output: &mut W, what: &'a [u8]) -> Result<(), Failure<'a>> {
     let text = b"usage: emc2305_replay        lists the log on standard input
        emc2305_replay FILE   lists the log in a file

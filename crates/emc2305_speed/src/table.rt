@@ -23,7 +23,7 @@ const BY_HIGH_BYTE: [u32; 256] = [
     971, 967, 963,
 ];
 
-// The RPM of the plain case at a count of 32 x byte; byte 0 answers 0.
+// The RPM of the plain case at a count of 32 x byte; byte 0 answers 0, as C is answered.
 #[tactic(auto, using(crate::proofs::HighBytes::table_rule))]
 pub fn rpm_by_high_byte(byte: u8) -> u32
     ensures { result ≡ rpm_by_high_byte byte }

@@ -34,7 +34,7 @@ fn run(rt: &HostRuntime, word: &mut [u8]) -> Result<(), Failure<'static>> {
     }
 }
 
-// Says how the program is called and what it does, on an output that messages call so.
+// Says how the program is called and what it does, on an output that messages call so. Each program has its own text.
 fn usage<'a, W: Write>(output: &mut W, what: &'a [u8]) -> Result<(), Failure<'a>> {
     let text =
         b"usage: emc2305_speeds POLES   reports speeds over the log on standard input; POLES is 1, 2, 3 or 4

@@ -10,7 +10,7 @@ const LIMIT: u32 = 320;
 // The count at which one more tick makes it fire.
 const LAST: u16 = 319;
 
-// Only one watch runs at a time. Each holds its count of ticks.
+// Only one watch runs at a time. Each holds its count of ticks. They have arms of their own, since different things end them.
 #[derive(Clone, Copy, Debug, PartialEq, Eq)]
 pub enum Watch {
     Off,

@@ -13,7 +13,8 @@ pub use lines::lay;
 // How many samples a report takes of a fan.
 const LIMIT: u32 = 65535;
 
-// The figures of a fan: how many samples have a count above 0; the lowest, the highest and the total of their whole RPM; how many have count 0.
+// The figures of a fan: how many samples have a count above 0; the lowest, the highest and the total of their whole RPM, 0 of none, as C is answered;
+// how many have count 0.
 #[derive(Clone, Copy, Debug, PartialEq, Eq)]
 pub struct Figures {
     pub samples: u16,
