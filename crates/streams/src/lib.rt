@@ -2,11 +2,11 @@
 // What the system gives and takes comes through std's traits, which a clause knows little of: so only programs use it.
 #![tactic(auto)]
 
-ghost use Rattle.std.specs.Prelude.{◌≡◌, true, ◌+◌, ◌-◌, ◌≤◌, length, take, IsOk, OnOk, OnErr};
+ghost use Rattle.std.specs.Prelude.{◌≡◌, true, ◌+◌, ◌-◌, ◌≤◌, length, take, IsOk, IsSome, IfOk, OnOk, OnErr};
 ghost use Rattle.std.specs.Io.KnownBytes.{Appends, Consumes};
 ghost use Rattle.windows.specs.declared.Wants.TheVariants.{Input};
 ghost use Rattle.laws.specs.Buffer.{bytes_at};
-ghost use Rattle.streams.specs.Served.{begun, going_on, held_of, read_of, ReadOn, Served};
+ghost use Rattle.streams.specs.Served.{begun, going_on, held_of, read_of, Fits, ReadOn, Served};
 ghost use Rattle.streams.specs.Said.{SaysOf};
 ghost use Rattle.streams.specs.Arguments.{help_word, asks_of, len_of, Asked, IsPrefixLen};
 
@@ -68,7 +68,8 @@ impl Held {
         window: &mut [u8],
     ) -> io::Result<Option<Self>>
         ensures served { Served (going_on self true) used wants window.old (held_of result (going_on self true) used window.old) window.new }
-        ensures failed { OnErr result (wants ≡ Input) }
+        ensures failed { OnErr result ((wants ≡ Input) × Fits (going_on self true) used window.old) }
+        ensures reads { IfOk result (λ next. wants ≡ Input → Fits (going_on self true) used window.old → IsSome next) }
     {
         let held = self.held;
         if window.len() < held || held < self.from || held - self.from < used {
