@@ -11,7 +11,7 @@ ghost use Rattle.reports.specs.Report.{report_given};
 ghost use Rattle.emc2305_report.specs.Speeds.{gauge, speeds_of};
 
 use emc2305_chip::Chip;
-use eventlog::Refusal;
+use eventlog::{Reading, Refusal};
 use reports::{Figures, Report, Reported};
 use windows::{Told, Wants};
 
@@ -65,7 +65,8 @@ pub fn tell(
     let state = walked.reported;
     let used = walked.place;
     let here = place.wrapping_add(used as u64);
-    if windows::waits(ended, eventlog::read(window, used)) {
+    let reading = Reading::from(eventlog::read(window, used));
+    if windows::waits(ended, reading) {
         return Told {
             state,
             place: here,

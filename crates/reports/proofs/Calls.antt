@@ -4,7 +4,9 @@ use native.Mathlib.Nat.{sub-zero}
 use Rattle.laws.proofs.Laid.{Fitted}
 use Rattle.laws.proofs.Tests.{by_test}
 use Rattle.eventlog.specs.declared.Event.{Event}
-use Rattle.eventlog.specs.Reading.{Reading, Record, read_at}
+use Rattle.eventlog.specs.declared.reading.Reading.{Reading}
+use Rattle.eventlog.specs.declared.reading.Reading.TheVariants.{Record}
+use Rattle.eventlog.specs.Reading.{read_at}
 use Rattle.records.specs.Records.{records_of}
 use Rattle.records.proofs.AllRecords.{record_then}
 use Rattle.records.proofs.Along.{over, along, records_at, none_at}

@@ -3,7 +3,8 @@ use Rattle.std.proofs.Common.{◌≡◌, ℕ, ◌+◌, ◌^◌, ◌<◌, true, f
 use borrow.Author.Tests.{eqb-false}
 use Rattle.laws.proofs.Tests.{by_test}
 use Rattle.eventlog.specs.declared.Event.{Event}
-use Rattle.eventlog.specs.Reading.{Record, read_at}
+use Rattle.eventlog.specs.declared.reading.Reading.TheVariants.{Record}
+use Rattle.eventlog.specs.Reading.{read_at}
 use Rattle.eventlog.proofs.Accepted.{accepted, read_good}
 use Rattle.eventlog.proofs.ByKind.{no_sample}
 use Rattle.eventlog.proofs.SaidElsewhere.{said_longer}

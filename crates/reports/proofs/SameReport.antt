@@ -7,7 +7,8 @@ use Rattle.eventlog.specs.declared.Event.TheVariants.{Sample}
 use Rattle.eventlog.specs.Kinds.{is_sample}
 use Rattle.eventlog.specs.Numbers.{number_read}
 use Rattle.eventlog.specs.Range.{fan_in_range, range_number}
-use Rattle.eventlog.specs.Reading.{Record, read_at}
+use Rattle.eventlog.specs.declared.reading.Reading.TheVariants.{Record}
+use Rattle.eventlog.specs.Reading.{read_at}
 use Rattle.eventlog.proofs.Accepted.{read_good}
 use Rattle.eventlog.proofs.ByKind.{by_sample, no_sample}
 use Rattle.eventlog.proofs.Ranges.{fan_right_lem}

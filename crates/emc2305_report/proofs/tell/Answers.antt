@@ -11,7 +11,7 @@ pub returns-then-waits : goal.returns-then-waits
 returns-then-waits c =
     let a = c.args in
     waits_called (gauge a.poles) _ a.place a.window.now a.ended a.out.now _ c.walk-walked.ensures _ refl
-    (ap (waits a.ended) (sym c.read.ensures) ∙ sym c.waits.ensures ∙ c.if-waits.true)
+    (ap (waits a.ended) (sym (c.from-reading.ensures ∙ c.read.ensures)) ∙ sym c.waits.ensures ∙ c.if-waits.true)
 
 pub returns : goal.returns
 returns c =
@@ -19,5 +19,5 @@ returns c =
     let number : c.map_or-number.result ≡ number_stopped c.walk-walked.result.stop = search rules in
     rw c.unwrap_or.ensures
     (lays_called (gauge a.poles) _ a.place a.window.now a.ended a.out.now _ c.walk-walked.ensures _ refl
-    (ap (waits a.ended) (sym c.read.ensures) ∙ sym c.waits.ensures ∙ c.if-waits.false) _ _ _
+    (ap (waits a.ended) (sym (c.from-reading.ensures ∙ c.read.ensures)) ∙ sym c.waits.ensures ∙ c.if-waits.false) _ _ _
     (fitted _ _ _ _ (rw number at c.lay-text.ensures)) _ (c.wants_last.ensures ∙ ap wants_last c.is_some.ensures))
