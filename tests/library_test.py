@@ -5,7 +5,7 @@
 
 The cases are those of host/expected/src/library.rs, those of kind 6 below, and the header's words. Each program is built twice,
 the second time with gcc's address and undefined behaviour sanitizers. The header is compiled by itself too, as C and, where there
-is g++, as C++.
+is g++, as C++. And the libraries ask a program for no function but those of OUTSIDE.
 """
 import pathlib
 import shutil
@@ -21,6 +21,8 @@ WARNINGS = ["-Wall", "-Wextra", "-Werror", "-I", ROOT / "include"]
 STRICT = ["-std=c11", *WARNINGS]
 ALONE = {"gcc": ["-x", "c", *STRICT, "-pedantic"], "g++": ["-x", "c++", "-std=c++17", *WARNINGS]}
 BUILDS = {"plain": [], "sanitized": ["-g", "-fsanitize=address,undefined", "-fno-sanitize-recover=all"]}
+# what a library may ask the program for that it is linked into; anything more would be one thing more for a firmware to bring along
+OUTSIDE = {"libcobblehard.a": {"memcpy", "memmove"}, "libcobblehard_speeds.a": {"memcpy"}}
 TIMEOUT = 120  # seconds, after which a program counts as hanging
 
 
@@ -47,6 +49,14 @@ def check_header(folder):
         done = subprocess.run(command, input='#include "cobblehard.h"\n' * 2, capture_output=True, text=True)
         if done.returncode:
             fail(f"compiling cobblehard.h with {compiler}", done.stderr)
+
+
+def check_outside(library):
+    """The names that a library leaves open."""
+    done = subprocess.run(["nm", "--undefined-only", "--format=just-symbols", library], capture_output=True, text=True)
+    names = {line for line in done.stdout.splitlines() if line and not line.endswith(":")}
+    if done.returncode or not names <= OUTSIDE[library.name]:
+        fail(library.name, f"needs {', '.join(sorted(names - OUTSIDE[library.name]))} from outside{done.stderr}")
 
 
 # ---- the cases ----
@@ -194,6 +204,8 @@ def main():
     counted = ", ".join(f"{count} of {word}" for word, count in counts.items())
     if not all(counts.values()):
         fail("host/expected", counted)
+    for library in libraries:
+        check_outside(library)
     with tempfile.TemporaryDirectory() as path:
         check_header(pathlib.Path(path))
     for name, flags in BUILDS.items():

@@ -40,7 +40,7 @@ pub fn speeds(log: &[u8], poles: u64) -> Report
         fans,
     };
     let walked = walk::walk(poles, begun, log);
-    let fans = walked.reported.fans;
+    let fans = walked.fans;
     Report {
         stop: walked.stop,
         place: walked.place,
@@ -62,7 +62,11 @@ pub fn tell(
     ensures { Called (report (gauge poles)) reported place window.now ended out.old result.state result.place result.used result.laid result.wants out.new }
 {
     let walked = walk::walk(poles, reported, window);
-    let state = walked.reported;
+    let fans = walked.fans;
+    let state = Reported {
+        state: walked.chip,
+        fans,
+    };
     let used = walked.place;
     let here = place.wrapping_add(used as u64);
     let reading = Reading::from(eventlog::read(window, used));
