@@ -7,7 +7,7 @@ ghost use Rattle.std.specs.Io.KnownBytes.{Appends, Consumes};
 ghost use Rattle.windows.specs.declared.Wants.TheVariants.{Input};
 ghost use Rattle.laws.specs.Buffer.{bytes_at};
 ghost use Rattle.streams.specs.Served.{begun, going_on, held_of, read_of, Fits, ReadOn, Served};
-ghost use Rattle.streams.specs.Said.{SaysOf};
+ghost use Rattle.streams.specs.Said.{Began, SaysOf};
 ghost use Rattle.streams.specs.Arguments.{help_word, asks_of, len_of, Asked, IsPrefixLen};
 
 use std::env::{Env, FillError};
@@ -106,21 +106,26 @@ fn read_on<R: Read>(from: usize, held: usize, input: &mut R, window: &mut [u8]) 
     }
 }
 
-// Writes a text whole.
+// Writes a text whole, or a front of it where a write fails. A write that a signal interrupts is tried again. A proved loop ends, and nothing says that
+// signals do: it has more turns than they use up.
 pub fn write_out<W: Write>(output: &mut W, text: &[u8]) -> io::Result<()>
     ensures empty { length text.now ≡ 0 → IsOk result }
     ensures whole { OnOk result (Appends (W.contents output.old) (W.contents output.new) text.now) }
+    ensures failed { OnErr result (Began (W.contents output.old) (W.contents output.new) text.now) }
 {
-    if text.is_empty() {
-        return Ok(());
-    }
-    match output.write_all(text) {
-        // In the words of the kind, and not of std's text.
-        Err(error) if error.kind() == ErrorKind::WriteZero => {
-            Err(io::Error::from(ErrorKind::WriteZero))
+    let mut done = 0;
+    for _ in 0..u64::MAX {
+        if done >= text.len() {
+            return Ok(());
         }
-        result => result,
+        match output.write(&text[done..]) {
+            Ok(0) => return Err(io::Error::from(ErrorKind::WriteZero)),
+            Ok(put) => done += put,
+            Err(error) if error.kind() == ErrorKind::Interrupted => {}
+            Err(error) => return Err(error),
+        }
     }
+    Err(io::Error::from(ErrorKind::TimedOut))
 }
 
 impl Failure<'_> {
@@ -158,7 +163,9 @@ pub fn read_full<'a, R: Read>(input: &mut R, space: &'a mut [u8]) -> &'a [u8]
     ensures bytes { Consumes (R.remaining input.old) (R.remaining input.new) result.now }
 {
     let mut len = 0;
-    while let Ok(got @ 1..) = input.read(&mut space[len..]) {
+    while len < space.len()
+        && let Ok(got @ 1..) = input.read(&mut space[len..])
+    {
         len += got;
     }
     &space[..len]
