@@ -1,5 +1,6 @@
 // Bytes and words as the programs write them.
-ghost use Rattle.std.specs.Prelude.{◌≡◌, true, false, length};
+ghost use Rattle.std.specs.Prelude.{◌≡◌, true, false, length, Some};
+ghost use Rattle.test_commands.specs.Shown.{hex_text};
 
 use std::fmt;
 
@@ -8,11 +9,13 @@ use std::fmt;
 pub struct Hex<'a>(pub &'a [u8]);
 
 impl fmt::Display for Hex<'_> {
+    ghost output = { λ hex. Some (hex_text hex.0.now) };
+
     fn fmt<W: fmt::Write>(&self, f: &mut fmt::Formatter<W>) -> fmt::Result {
         if self.0.is_empty() {
             return f.write_str("-");
         }
-        for byte in self.0 {
+        for &byte in self.0 {
             write!(f, "{byte:02x}")?;
         }
         Ok(())
