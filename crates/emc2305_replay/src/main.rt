@@ -1,7 +1,8 @@
 // Lists the log on standard input, or in the file that the one argument names: a line for each record, and a last one (document 01, 'Numbers given back').
 #![tactic(auto)]
 
-ghost use Rattle.std.specs.Prelude.{◌≤◌, length};
+ghost use Rattle.windows.specs.Teller.{tells_of};
+ghost use Rattle.emc2305_listing.specs.Lines.{lines};
 
 use emc2305_chip::Chip;
 use std::io::{Read, Write};
@@ -89,9 +90,16 @@ struct Listing;
 impl Teller for Listing {
     type State = Chip;
 
-    fn tell(&self, chip: Chip, place: u64, window: &[u8], ended: bool, out: &mut [u8]) -> Told<Chip>
-        ensures within { result.laid ≤ length out.new }
-    {
+    ghost tells = { λ _. tells_of lines };
+
+    fn tell(
+        &self,
+        chip: Chip,
+        place: u64,
+        window: &[u8],
+        ended: bool,
+        out: &mut [u8],
+    ) -> Told<Chip> {
         emc2305_listing::list(chip, place, window, ended, out)
     }
 }

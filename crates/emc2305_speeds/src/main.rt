@@ -1,7 +1,10 @@
 // Reports the speeds of the fans over the log on standard input: a line for each fan, and a last one (document 02, CR 2). The poles are its one argument.
 #![tactic(auto)]
 
-ghost use Rattle.std.specs.Prelude.{◌≡◌, ◌≤◌, length};
+ghost use Rattle.std.specs.Prelude.{◌≡◌};
+ghost use Rattle.windows.specs.Teller.{tells_of};
+ghost use Rattle.reports.specs.Adding.{report};
+ghost use Rattle.emc2305_report.specs.Speeds.{gauge};
 ghost use Rattle.emc2305_speeds.specs.Arguments.{poles_of, poles_in};
 
 use emc2305_chip::Chip;
@@ -112,6 +115,8 @@ struct Speeds {
 impl Teller for Speeds {
     type State = Reported<Chip>;
 
+    ghost tells = { λ speeds. tells_of (report (gauge speeds.poles)) };
+
     fn tell(
         &self,
         reported: Reported<Chip>,
@@ -119,9 +124,7 @@ impl Teller for Speeds {
         window: &[u8],
         ended: bool,
         out: &mut [u8],
-    ) -> Told<Reported<Chip>>
-        ensures within { result.laid ≤ length out.new }
-    {
+    ) -> Told<Reported<Chip>> {
         emc2305_report::tell(self.poles, reported, place, window, ended, out)
     }
 }
