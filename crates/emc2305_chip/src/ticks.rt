@@ -20,7 +20,8 @@ impl Chip {
             } else {
                 let quiet = watch.quiet(left);
                 let next = quiet.watch;
-                chip = chip.all_ticks(quiet.ticks).with_watch(next);
+                chip.all_ticks(quiet.ticks);
+                chip = chip.with_watch(next);
                 left -= quiet.ticks;
             }
         }
@@ -36,15 +37,14 @@ impl Chip {
         self.with_fans(fans::each(self.fans, self.part, |fan| fan.fired()))
     }
 
-    // Each fan takes so many ticks of its own; where none has anything to do, nothing changes.
+    // Each fan takes so many ticks of its own; where none has anything to do, nothing changes, and by reference nothing is copied.
     #[tactic(auto, using(crate::proofs::Together::all_idle))]
-    fn all_ticks(self, count: u16) -> Chip
-        ensures { result ≡ all_ticks count self }
+    fn all_ticks(&mut self, count: u16)
+        ensures { self.new ≡ all_ticks count self.old }
     {
         if fans::any_busy(self.fans, self.part) {
-            self.with_fans(fans::each(self.fans, self.part, |fan| fan.ticks(count)))
-        } else {
-            self
+            let fans = fans::each(self.fans, self.part, |fan| fan.ticks(count));
+            self.fans = fans;
         }
     }
 }
